@@ -1,0 +1,133 @@
+//! Every sequence of three posts, four operators by seven values, on five small domains.
+//!
+//! A session holds the sequences that begin with one post. Each is undone before the next, so
+//! undoing is tried too.
+
+use crate::aiming::Aim;
+use crate::commands::{Command, Mode, Part};
+use crate::random::Random;
+use crate::scribe::Scribe;
+use crate::session::Session;
+use crate::sketch::{HIGHEST, LOWEST, OPERATORS, Operator};
+
+#[derive(Clone, Copy)]
+struct Domain {
+    create: fn(&mut Scribe),
+    /// The value that stands where 1 does in the domain 1 to 3.
+    first: i64,
+}
+
+const DOMAINS: [Domain; 5] = [
+    Domain {
+        create: |scribe| scribe.var(1, 3),
+        first: 1,
+    },
+    Domain {
+        create: one_to_four_without_two,
+        first: 1,
+    },
+    Domain {
+        create: |scribe| scribe.list(&[1, 4]),
+        first: 1,
+    },
+    Domain {
+        create: |scribe| scribe.var(LOWEST, LOWEST + 2),
+        first: LOWEST,
+    },
+    Domain {
+        create: |scribe| scribe.var(HIGHEST - 2, HIGHEST),
+        first: HIGHEST - 2,
+    },
+];
+
+fn one_to_four_without_two(scribe: &mut Scribe) {
+    scribe.var(1, 4);
+    scribe.post_plain(1, Operator::Not, 2);
+}
+
+type Predicate = (Operator, i64);
+
+fn predicates(domain: Domain) -> Vec<Predicate> {
+    let values = (domain.first - 2).max(LOWEST)..=(domain.first + 4).min(HIGHEST);
+    OPERATORS
+        .into_iter()
+        .flat_map(|operator| values.clone().map(move |value| (operator, value)))
+        .collect()
+}
+
+pub fn sessions(mode: Mode) -> impl Iterator<Item = Session> {
+    DOMAINS.into_iter().flat_map(move |domain| {
+        predicates(domain)
+            .into_iter()
+            .map(move |first| session(mode, domain, first))
+    })
+}
+
+fn session(mode: Mode, domain: Domain, first: Predicate) -> Session {
+    let mut scribe = Scribe::new(mode, Random::from_seed(first.1 as u64));
+    (domain.create)(&mut scribe);
+    let predicates = predicates(domain);
+    for second in &predicates {
+        for third in &predicates {
+            sequence(&mut scribe, [first, *second, *third]);
+        }
+    }
+    scribe.finish(super::EXHAUSTIVE)
+}
+
+fn sequence(scribe: &mut Scribe, posts: [Predicate; 3]) {
+    scribe.open();
+    for (operator, value) in posts {
+        scribe.post_plain(1, operator, value);
+    }
+    scribe.state();
+    if !scribe.in_callscript() {
+        scribe.show(1);
+        scribe.line("count");
+    }
+    ask(scribe);
+    scribe.back(0);
+    scribe.state();
+    if !scribe.in_callscript() {
+        scribe.show(1);
+    }
+}
+
+/// One question about now and one about a position; which ones are drawn, so that a session has
+/// them all.
+fn ask(scribe: &mut Scribe) {
+    let aim = Aim {
+        variable: 1,
+        predicate: scribe.some_predicate(1),
+    };
+    scribe.ask(1, aim.predicate.0, aim.predicate.1);
+    let questions: Vec<&Command> = scribe
+        .mode
+        .commands()
+        .filter(|command| matches!(command.part, Part::Question | Part::Listing))
+        .collect();
+    let command = scribe.random.pick(&questions);
+    scribe.call(command, aim);
+}
+
+#[cfg(test)]
+mod tests {
+    use super::*;
+
+    #[test]
+    fn every_sequence_of_three_posts_is_there_once() {
+        let mut sequences = std::collections::BTreeSet::new();
+        for session in sessions(Mode::Trailscript) {
+            let text = String::from_utf8(session.bytes).unwrap();
+            let head = text.split("open\n").next().unwrap().to_string();
+            for sequence in text.split("open\n").skip(1) {
+                let posts: String = sequence
+                    .lines()
+                    .filter(|line| line.starts_with("post"))
+                    .collect();
+                assert!(sequences.insert(head.clone() + &posts));
+            }
+        }
+        assert_eq!(sequences.len(), 3 * 28usize.pow(3) + 2 * 20usize.pow(3));
+    }
+}

@@ -1,0 +1,212 @@
+//! The scribe writes a session line by line, and keeps the sketch in step with the lines.
+
+use crate::aiming::Aim;
+use crate::commands::{Command, Field, Mode};
+use crate::random::Random;
+use crate::session::{LINE_LIMIT, ROOM_LIMIT, Session};
+use crate::sketch::{Operator, Post, Sketch};
+
+pub struct Scribe {
+    pub mode: Mode,
+    pub random: Random,
+    pub sketch: Sketch,
+    pub lines: usize,
+    bytes: Vec<u8>,
+}
+
+impl Scribe {
+    pub fn new(mode: Mode, random: Random) -> Scribe {
+        Scribe {
+            mode,
+            random,
+            sketch: Sketch::fresh(),
+            lines: 0,
+            bytes: Vec::new(),
+        }
+    }
+
+    pub fn finish(self, kind: &'static str) -> Session {
+        Session {
+            kind,
+            bytes: self.bytes,
+        }
+    }
+
+    pub fn drop_last_line_feed(&mut self) {
+        if self.bytes.last() == Some(&b'\n') {
+            self.bytes.pop();
+        }
+    }
+
+    /// Writes a line that changes no store, or one whose effect the sketch need not know.
+    pub fn line(&mut self, line: impl AsRef<[u8]>) {
+        self.bytes.extend_from_slice(line.as_ref());
+        self.bytes.push(b'\n');
+        self.lines += 1;
+    }
+
+    pub fn fields(&mut self, fields: &[String]) {
+        self.line(fields.join("\t"));
+    }
+
+    pub fn in_callscript(&self) -> bool {
+        self.mode == Mode::Callscript
+    }
+
+    pub fn var(&mut self, lower: i64, upper: i64) {
+        self.line(format!("var\t{lower}\t{upper}"));
+        self.sketch.create_dense(lower, upper);
+    }
+
+    pub fn list(&mut self, values: &[i64]) {
+        let line = list_line(values);
+        if line.len() <= LINE_LIMIT {
+            self.sketch.create_from_list(values);
+        }
+        self.line(line);
+    }
+
+    pub fn post(&mut self, post: Post) {
+        let reason = post
+            .reason
+            .map_or("-".to_string(), |reason| reason.to_string());
+        self.line(format!(
+            "post\t{}\t{}\t{}\t{reason}",
+            post.variable,
+            post.operator.name(),
+            post.value
+        ));
+        self.sketch.post(post);
+    }
+
+    pub fn post_plain(&mut self, variable: usize, operator: Operator, value: i64) {
+        self.post(Post {
+            variable,
+            operator,
+            value,
+            reason: None,
+        });
+    }
+
+    pub fn open(&mut self) {
+        self.line("open");
+        self.sketch.open();
+    }
+
+    pub fn back(&mut self, checkpoint: usize) {
+        self.line(format!("back\t{checkpoint}"));
+        self.sketch.back(checkpoint);
+    }
+
+    pub fn synchronise(&mut self, checkpoint: usize, room: usize, second_room: usize) {
+        self.line(format!("synchronise\t{checkpoint}\t{room}\t{second_room}"));
+        let shorter = room.min(second_room);
+        if room.max(second_room) <= ROOM_LIMIT && shorter >= self.sketch.entries_above(checkpoint) {
+            self.sketch.back(checkpoint);
+        }
+    }
+
+    /// Begins anew where the language can; trailscript can only go back to the root.
+    pub fn begin_anew(&mut self) {
+        if self.in_callscript() {
+            self.line("fresh");
+            self.sketch = Sketch::fresh();
+        } else if self.sketch.checkpoint() > 0 {
+            self.back(0);
+        }
+    }
+
+    pub fn state(&mut self) {
+        if self.in_callscript() {
+            self.line("state");
+        }
+    }
+
+    pub fn show(&mut self, variable: usize) {
+        self.line(format!("show\t{variable}"));
+    }
+
+    pub fn ask(&mut self, variable: usize, operator: Operator, value: i64) {
+        self.line(format!("ask\t{variable}\t{}\t{value}", operator.name()));
+    }
+
+    pub fn at(&mut self, position: usize, variable: usize, operator: Operator, value: i64) {
+        self.line(format!(
+            "at\t{position}\t{variable}\t{}\t{value}",
+            operator.name()
+        ));
+    }
+
+    /// Writes a question or a listing, its fields aimed. Rooms are ample, as the kind `rooms` is
+    /// about short ones.
+    pub fn call(&mut self, command: &Command, aim: Aim) {
+        let searches_a_reason = command.name == "get_reason_for_predicate_brute_force";
+        let aim = if searches_a_reason && self.random.chance(60) {
+            self.aim_at_a_reason().unwrap_or(aim)
+        } else {
+            aim
+        };
+        let fields = self.fields_of(command, aim);
+        self.fields(&fields);
+    }
+
+    pub fn fields_of(&mut self, command: &Command, aim: Aim) -> Vec<String> {
+        let name = std::iter::once(command.name.to_string());
+        name.chain(command.fields.iter().map(|field| self.field(*field, aim)))
+            .collect()
+    }
+
+    fn field(&mut self, field: Field, aim: Aim) -> String {
+        match field {
+            Field::Variable => aim.variable.to_string(),
+            Field::Operator => aim.predicate.0.name().to_string(),
+            Field::Value => aim.predicate.1.to_string(),
+            Field::Reason => self
+                .some_reason()
+                .map_or("-".to_string(), |reason| reason.to_string()),
+            Field::Position => self.some_position().to_string(),
+            Field::Index => self.some_index().to_string(),
+            Field::Checkpoint => self.some_checkpoint().to_string(),
+            Field::Room => if self.random.chance(90) {
+                ROOM_LIMIT
+            } else {
+                self.random.below(6)
+            }
+            .to_string(),
+        }
+    }
+}
+
+pub fn list_line(values: &[i64]) -> String {
+    let mut line = "list".to_string();
+    for value in values {
+        line.push('\t');
+        line.push_str(&value.to_string());
+    }
+    line
+}
+
+#[cfg(test)]
+mod tests {
+    use super::*;
+
+    #[test]
+    fn the_sketch_follows_the_lines() {
+        let mut scribe = Scribe::new(Mode::Callscript, Random::from_seed(1));
+        scribe.var(1, 5);
+        scribe.open();
+        scribe.post_plain(1, Operator::AtLeast, 3);
+        scribe.synchronise(0, 0, 1);
+        assert_eq!(scribe.sketch.checkpoint(), 1);
+        scribe.synchronise(0, 1, 1);
+        assert_eq!(
+            (scribe.sketch.checkpoint(), scribe.sketch.variables[1].lower),
+            (0, 1)
+        );
+        let session = scribe.finish("test");
+        assert_eq!(
+            session.bytes,
+            b"var\t1\t5\nopen\npost\t1\tge\t3\t-\nsynchronise\t0\t0\t1\nsynchronise\t0\t1\t1\n"
+        );
+    }
+}

@@ -1,0 +1,1 @@
+pub(crate) use crate::engine::predicates::predicate_constructor::PredicateConstructor;
