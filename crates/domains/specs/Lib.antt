@@ -1,0 +1,12 @@
+pub mod Choice
+pub mod Domain
+pub mod Promises
+pub mod Tests
+pub mod Stepping
+pub mod Membership
+pub mod Narrowing
+pub mod Laws
+pub mod Fits
+pub mod Truth
+pub mod TruthLaws
+pub mod Bench

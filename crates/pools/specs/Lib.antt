@@ -1,0 +1,4 @@
+pub mod Chain
+pub mod ChainLaws
+pub mod Runs
+pub mod RunLaws

@@ -1,0 +1,13 @@
+pub mod Refusals
+pub mod Store
+pub mod Calls
+pub mod Made
+pub mod Replay
+pub mod Positions
+pub mod Straight
+pub mod Undo
+pub mod Meaning
+pub mod Steps
+pub mod Lists
+pub mod Cases
+pub mod History
