@@ -19,7 +19,7 @@ use Rattle.domains.specs.Tests.{clash}
 use Rattle.stores.specs.declared.Assignments.{Assignments}
 use Rattle.stores.specs.Made.{AreI32, Made, Since}
 use Rattle.stores.specs.Store.{bare, recorded, opened}
-use Rattle.stores.specs.Calls.{fresh, isEmpty, missing, listed, posted, synchronised}
+use Rattle.stores.specs.Calls.{fresh, isEmpty, missing, listed, posted, entriesAbove, synchronised, synchroniseStore}
 use Rattle.stores.specs.Straight.{Records, Straight, Tidy, tidy}
 use Rattle.stores.specs.Undo.{back-recorded, back-opened, back-where-opened}
 use Rattle.stores.specs.Steps.{post-records, post-straight, grown-straight, back-straight}
@@ -92,3 +92,9 @@ module _ (m : Assignments) (q : Straight m) where
   above (Since.openMore {s = s} u) = open-cases s (Above m) (above u) (λ few. Above.openMore (above u) few)
   above (Since.synchronise {s = s} u k room h) =
       synchronise-cases s k room (λ (t : Assignments). m .checkpoint < t .checkpoint → Above m t) (λ l. above u) (λ lower l. back-above (above u) k l lower) h
+
+-- the store that opened comes back
+pub back-law : (m s : Assignments) (room : ℕ) → Made m → Since m s → entriesAbove s (m .checkpoint) ≤ room → synchroniseStore s (m .checkpoint) room ≡ m
+back-law m s room made since fits =
+    let u = above m (straight made) since in
+    sym (synchronise-taken s (m .checkpoint) room (higher m (straight made) u) fits .1) ∙ comes-back m (straight made) u

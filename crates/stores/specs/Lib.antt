@@ -11,3 +11,5 @@ pub mod Steps
 pub mod Lists
 pub mod Cases
 pub mod History
+pub mod Promises
+pub mod Kept

@@ -206,7 +206,7 @@ removed-straight vs (suc n) v s x r = go (has vs v) refl (λ q. removed-straight
     go false e stays goes = goes (missing-goes vs n v s x e r)
 
 -- what a removal leaves alone
-removed-root : (ms : List ℤ) (s : Assignments) (x : ℕ) → removedAll s x ms .checkpoint ≡ s .checkpoint
+pub removed-root : (ms : List ℤ) (s : Assignments) (x : ℕ) → removedAll s x ms .checkpoint ≡ s .checkpoint
 unfolding removedAll posted recorded
 removed-root [] s x = refl
 removed-root (m ∷ ms) s x = removed-root ms (posted s (notEqual x m) None) x

@@ -20,7 +20,7 @@ use Rattle.domains.specs.Domain.{Domain, isNotEqual, after, prunedBy}
 use Rattle.domains.specs.Fits.{pruned-fits}
 use Rattle.pools.specs.declared.Update.{Update}
 use Rattle.pools.specs.declared.Pool.{Pool}
-use Rattle.pools.specs.Chain.{noUpdates, chainOf, valuesOf}
+use Rattle.pools.specs.Chain.{noUpdates, chainOf, valuesOf, upTo}
 use Rattle.pools.specs.ChainLaws.{no-link, chain-pushed-own, chain-pushed-other}
 use Rattle.stores.specs.declared.Entry.{Entry}
 use Rattle.stores.specs.declared.Variable.{Variable}
@@ -28,7 +28,7 @@ use Rattle.stores.specs.declared.Assignments.{Assignments}
 use Rattle.stores.specs.Made.{AreI32}
 use Rattle.stores.specs.Store.{noEntry, noVariable, bare, variableOf, lowersOf, uppersOf, holesOf, domainOf, entryOf, pushIf, linkIf, recorded, allocated, marked, opened}
 use Rattle.stores.specs.Replay.{on, replayed, boundsOf, prunedUpTo}
-use Rattle.stores.specs.Positions.{valueAt, upTo, domainAt}
+use Rattle.stores.specs.Positions.{valueAt, domainAt}
 use Rattle.stores.specs.Straight.{domainWith, Records, Straight, Tidy, TidyPool, tidy}
 
 -- what holds of every straight store: the bounds are i32, a variable starts with some value, the domain now and the domain that the store
@@ -100,11 +100,11 @@ value-late : (b : Bool) (u : Update) (us : List Update) (q : ℕ) (o : ℤ) → 
 value-late false u us q o h k = sym (k refl)
 value-late true u us q o h k = rw (le-leb (u .position .0) q h)
 
-holes-early : (b : Bool) (u : Update) (us : List Update) (q : ℕ) → q < u .position .0 → upTo q (pick b (u ∷ us) us) ≡ upTo q us
+holes-early : (b : Bool) (u : Update) (us : List Update) (q : ℕ) → q < u .position .0 → upTo (pick b (u ∷ us) us) q ≡ upTo us q
 holes-early false u us q h = refl
 holes-early true u us q h = rw (lt-leb (u .position .0) q h)
 
-holes-late : (b : Bool) (u : Update) (us : List Update) (q : ℕ) → u .position .0 ≤ q → valuesOf (upTo q (pick b (u ∷ us) us)) ≡ pick b (u .value ∷ valuesOf (upTo q us)) (valuesOf (upTo q us))
+holes-late : (b : Bool) (u : Update) (us : List Update) (q : ℕ) → u .position .0 ≤ q → valuesOf (upTo (pick b (u ∷ us) us) q) ≡ pick b (u .value ∷ valuesOf (upTo us q)) (valuesOf (upTo us q))
 holes-late false u us q h = refl
 holes-late true u us q h = rw (le-leb (u .position .0) q h)
 
@@ -208,7 +208,7 @@ module _ (s : Assignments) (p : Predicate) (r : Reason) (a b : Bool) (to : Bound
     other-at q = λ i. record {
       lower = valueAt (other-lowers i) q (others y h i .initial .lower);
       upper = valueAt (other-uppers i) q (others y h i .initial .upper);
-      holes = valuesOf (upTo q (other-holes i));
+      holes = valuesOf (upTo (other-holes i) q);
     }
 
   own-domain : domainOf after-it x ≡ domainWith p to (domainOf s x)
@@ -222,11 +222,11 @@ module _ (s : Assignments) (p : Predicate) (r : Reason) (a b : Bool) (to : Bound
   own-early q h =
       let lo = ap (λ us. valueAt us q (was .initial .lower)) own-lowers ∙ value-early a newLower (lowersOf s x) q (was .initial .lower) h in
       let hi = ap (λ us. valueAt us q (was .initial .upper)) own-uppers ∙ value-early b newUpper (uppersOf s x) q (was .initial .upper) h in
-      let hs = ap (λ us. valuesOf (upTo q us)) own-holes ∙ ap valuesOf (holes-early c newHole (holesOf s x) q h) in
+      let hs = ap (λ us. valuesOf (upTo us q)) own-holes ∙ ap valuesOf (holes-early c newHole (holesOf s x) q h) in
       (λ i. record {
         lower = valueAt (lowersOf after-it x) q (self i .initial .lower);
         upper = valueAt (uppersOf after-it x) q (self i .initial .upper);
-        holes = valuesOf (upTo q (holesOf after-it x));
+        holes = valuesOf (upTo (holesOf after-it x) q);
       })
       ∙ (λ i. record { lower = lo i; upper = hi i; holes = hs i })
 
@@ -243,11 +243,11 @@ module _ (s : Assignments) (p : Predicate) (r : Reason) (a b : Bool) (to : Bound
       let before = late-before q h in
       let lo = ap (λ us. valueAt us q (was .initial .lower)) own-lowers ∙ value-late a newLower (lowersOf s x) q (was .initial .lower) h (λ e. k .keepsLower e ∙ sym (ap (λ (d : Domain). d .lower) before)) in
       let hi = ap (λ us. valueAt us q (was .initial .upper)) own-uppers ∙ value-late b newUpper (uppersOf s x) q (was .initial .upper) h (λ e. k .keepsUpper e ∙ sym (ap (λ (d : Domain). d .upper) before)) in
-      let hs = ap (λ us. valuesOf (upTo q us)) own-holes ∙ holes-late c newHole (holesOf s x) q h ∙ ap (λ (d : Domain). pick c (p .value ∷ d .holes) (d .holes)) before in
+      let hs = ap (λ us. valuesOf (upTo us q)) own-holes ∙ holes-late c newHole (holesOf s x) q h ∙ ap (λ (d : Domain). pick c (p .value ∷ d .holes) (d .holes)) before in
       (λ i. record {
         lower = valueAt (lowersOf after-it x) q (self i .initial .lower);
         upper = valueAt (uppersOf after-it x) q (self i .initial .upper);
-        holes = valuesOf (upTo q (holesOf after-it x));
+        holes = valuesOf (upTo (holesOf after-it x) q);
       })
       ∙ (λ i. record { lower = lo i; upper = hi i; holes = hs i })
 
@@ -419,12 +419,12 @@ module _ (s : Assignments) (start : Bounds) (t : Tidy s) (m : Meant s) (room : s
       (λ i. record {
         lower = valueAt (chainOf (with-it .lower .updates) (laid-down i .lower)) q (laid-down i .initial .lower);
         upper = valueAt (chainOf (with-it .upper .updates) (laid-down i .upper)) q (laid-down i .initial .upper);
-        holes = valuesOf (upTo q (chainOf (with-it .holes .updates) (laid-down i .holes)));
+        holes = valuesOf (upTo (chainOf (with-it .holes .updates) (laid-down i .holes)) q);
       })
       ∙ (λ i. record {
         lower = valueAt (no-link (with-it .lower .updates) 1024 i) q (start .lower);
         upper = valueAt (no-link (with-it .upper .updates) 1024 i) q (start .upper);
-        holes = valuesOf (upTo q (no-link (with-it .holes .updates) 1024 i));
+        holes = valuesOf (upTo (no-link (with-it .holes .updates) 1024 i) q);
       })
 
   begun-replay : (j : ℕ) → j ≤ s .trail .length → replayed (s .trail .entries) (s .domains) (variableOf with-it (s .domains) .initial) j ≡ begun
@@ -440,7 +440,7 @@ module _ (s : Assignments) (start : Bounds) (t : Tidy s) (m : Meant s) (room : s
   same-at y q h = λ i. record {
     lower = valueAt (chainOf (s .lower .updates) (elsewhere y h i .lower)) q (elsewhere y h i .initial .lower);
     upper = valueAt (chainOf (s .upper .updates) (elsewhere y h i .upper)) q (elsewhere y h i .initial .upper);
-    holes = valuesOf (upTo q (chainOf (s .holes .updates) (elsewhere y h i .holes)));
+    holes = valuesOf (upTo (chainOf (s .holes .updates) (elsewhere y h i .holes)) q);
   }
 
   -- a property of every variable: of the new one, and of those before

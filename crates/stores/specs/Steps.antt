@@ -41,7 +41,7 @@ use Rattle.stores.specs.Meaning.{Meant, meant, recorded-own}
 -- ---- the domains of a straight store
 
 -- a domain that starts with some value has tight bounds ever after
-replayed-tight : (es : List Entry) (x : ℕ) (start : Bounds) (n : ℕ) → start .lower ≤ℤ start .upper → Tight (replayed es x start n)
+pub replayed-tight : (es : List Entry) (x : ℕ) (start : Bounds) (n : ℕ) → start .lower ≤ℤ start .upper → Tight (replayed es x start n)
 unfolding replayed
 replayed-tight es x start zero h = record {
   least = λ l. is-left d (start .lower) (record { above = omega integers; below = h; kept = refl });

@@ -1,0 +1,114 @@
+-- What is promised of the store: statements alone, in the order of the demands. The proofs are in Kept.antt. Believe the definitions that
+-- these cite (Refusals, Store, Calls, Made, Replay, Positions, and Domain of domains) and nothing else. Assumes nothing.
+use Prim.Native.Nat.{ℕ, suc, _+_, _≤_, _<_, min}
+use mathlib.Core.Bool.{Bool, true, false, _&&_}
+use mathlib.Core.Path.{_≡_}
+use mathlib.Core.Logic.{_≢_, _↔_}
+use mathlib.Core.List.{List, []}
+use lib.IntN.{ℤ, pos}
+use lib.ListN.{getD, length}
+use lib.Signed.{ltZ}
+use mir.Syntax.{w32}
+use mir.Val.{SFits}
+use Rattle.predicates.specs.declared.Predicate.{Predicate}
+use Rattle.predicates.specs.declared.Reason.{Reason}
+use Rattle.domains.specs.declared.Bounds.{Bounds}
+use Rattle.domains.specs.Domain.{satisfies, member, emptied, overflows}
+use Rattle.domains.specs.Promises.{Tight}
+use Rattle.stores.specs.declared.Refusal.{Refusal}
+use Rattle.stores.specs.declared.Refusal.the-variants.{Empty}
+use Rattle.stores.specs.declared.GrowAnswer.the-variants as Grow
+use Rattle.stores.specs.declared.PostAnswer.the-variants as Post
+use Rattle.stores.specs.declared.OpenAnswer.the-variants as Open
+use Rattle.stores.specs.declared.SynchroniseAnswer.the-variants as Synchronise
+use Rattle.stores.specs.declared.Assignments.{Assignments}
+use Rattle.stores.specs.Refusals.{numberOf, First}
+use Rattle.stores.specs.Store.{variableOf, domainOf}
+use Rattle.stores.specs.Calls.{growGrounds, growAnswer, growStore, missing, isEmpty, listAnswer, listStore, domainBefore, postGrounds, postAnswer, keeps, postStore, openGrounds, openAnswer, openStore, entriesAbove, synchroniseGrounds, synchroniseAnswer, synchroniseStore, pairsOf}
+use Rattle.stores.specs.Made.{Made, Since}
+use Rattle.stores.specs.Replay.{remains, prunedUpTo}
+use Rattle.stores.specs.Positions.{domainAt}
+
+-- ---- Demand 1: refusals
+
+-- each call's answer is a refusal exactly when that is the first in the call's order of which the test holds
+pub record RefusalLaw : Type 0 where
+  pub grow : (s : Assignments) (b : Bounds) (r : Refusal) → (growAnswer s b ≡ Grow.Refused r) ↔ First (growGrounds s (ltZ (b .upper) (b .lower)) 2) r
+  pub list : (s : Assignments) (vs : List ℤ) (r : Refusal) → (listAnswer s vs ≡ Grow.Refused r) ↔ First (growGrounds s (isEmpty vs) (2 + length (missing vs))) r
+  pub post : (s : Assignments) (p : Predicate) (r : Refusal) → (postAnswer s p ≡ Post.Refused r) ↔ First (postGrounds s p) r
+  pub openNext : (s : Assignments) (r : Refusal) → (openAnswer s ≡ Open.Refused r) ↔ First (openGrounds s) r
+  pub synchronise : (s : Assignments) (k room : ℕ) (r : Refusal) → (synchroniseAnswer s k room ≡ Synchronise.Refused r) ↔ First (synchroniseGrounds s k room) r
+
+-- every refusal but 7 leaves the store as it was, and a refused synchronise writes nothing
+pub record UntouchedLaw : Type 0 where
+  pub grow : (s : Assignments) (b : Bounds) (r : Refusal) → growAnswer s b ≡ Grow.Refused r → growStore s b ≡ s
+  pub list : (s : Assignments) (vs : List ℤ) (r : Refusal) → listAnswer s vs ≡ Grow.Refused r → listStore s vs ≡ s
+  pub post : (s : Assignments) (p : Predicate) (why : Reason) (r : Refusal) → postAnswer s p ≡ Post.Refused r → numberOf r ≢ 7 → postStore s p why ≡ s
+  pub openNext : (s : Assignments) (r : Refusal) → openAnswer s ≡ Open.Refused r → openStore s ≡ s
+  pub synchronise : (s : Assignments) (k room : ℕ) (r : Refusal) → synchroniseAnswer s k room ≡ Synchronise.Refused r → (synchroniseStore s k room ≡ s) × (pairsOf s k room ≡ [])
+
+-- what a post answers depends on the number of variables, the variable's domain and the number of entries now on the trail, and on
+-- nothing else: room that a synchronise freed is used again
+abbrev pub RoomLaw : Type 0
+RoomLaw = (s t : Assignments) (p : Predicate) → s .domains ≡ t .domains → domainBefore s p ≡ domainBefore t p → s .trail .length ≡ t .trail .length → postAnswer s p ≡ postAnswer t p
+
+-- ---- Demand 2: posts
+
+-- a post that is taken, or refused with 7, leaves exactly the values before that satisfy it, and every other variable as it was
+abbrev pub SetLaw : Type 0
+SetLaw =
+    (s : Assignments) → Made s → (p : Predicate) (why : Reason) → SFits w32 (p .value) → keeps (postAnswer s p) ≡ true →
+    ((v : ℤ) → member (domainOf (postStore s p why) (p .domain .0)) v ≡ (member (domainBefore s p) v && satisfies (p .kind) (p .value) v))
+    × ((y : ℕ) → y ≢ p .domain .0 → domainOf (postStore s p why) y ≡ domainOf s y)
+
+-- lower and upper are the least and the greatest value left, if any is, and none is exactly when lower > upper
+abbrev pub BoundsLaw : Type 0
+BoundsLaw =
+    (s : Assignments) → Made s → (x : ℕ) → x < s .domains →
+    Tight (domainOf s x) × ((emptied (domainOf s x) ≡ true) ↔ ((v : ℤ) → member (domainOf s x) v ≡ false))
+
+-- some value of the set before is lost by the post; some is left
+abbrev pub Lost : Assignments → Predicate → Type 0
+Lost s p = (v : ℤ) × (member (domainBefore s p) v ≡ true) × (satisfies (p .kind) (p .value) v ≡ false)
+
+abbrev pub SomeLeft : Assignments → Predicate → Type 0
+SomeLeft s p = (v : ℤ) × (member (domainBefore s p) v ≡ true) × (satisfies (p .kind) (p .value) v ≡ true)
+
+-- where the set before was not empty: unchanged, with the store as it was, exactly when nothing is lost; changed exactly when something
+-- is lost, something is left and there is room for the entry; 7 exactly when nothing is left, unless 5 or 6 comes first
+pub record AnswerLaw : Type 0 where
+  pub unchanged : (s : Assignments) → Made s → (p : Predicate) → p .domain .0 < s .domains → emptied (domainBefore s p) ≡ false → (postAnswer s p ≡ Post.Unchanged) ↔ (Lost s p → ⊥)
+  pub noEntry : (s : Assignments) → Made s → (p : Predicate) (why : Reason) → postAnswer s p ≡ Post.Unchanged → postStore s p why ≡ s
+  pub changed : (s : Assignments) → Made s → (p : Predicate) → p .domain .0 < s .domains → emptied (domainBefore s p) ≡ false → (postAnswer s p ≡ Post.Changed) ↔ (Lost s p × SomeLeft s p × (s .trail .length < 1024))
+  pub emptiedBy : (s : Assignments) → Made s → (p : Predicate) → p .domain .0 < s .domains → emptied (domainBefore s p) ≡ false → (postAnswer s p ≡ Post.Refused Empty) ↔ ((SomeLeft s p → ⊥) × (s .trail .length < 1024) × (overflows (p .kind) (p .value) (domainBefore s p) ≡ false))
+
+-- ---- Demand 3: the trail
+
+-- a value is left now exactly when it remains after all entries of the trail
+abbrev pub ReplayLaw : Type 0
+ReplayLaw =
+    (s : Assignments) → Made s → (x : ℕ) → x < s .domains → (v : ℤ) →
+    member (domainOf s x) v ≡ remains (s .trail .entries) x (variableOf s x .initial) v (s .trail .length)
+
+-- what the store has for a position is what remains there, with tight bounds; a position past the trail means now
+abbrev pub PositionLaw : Type 0
+PositionLaw =
+    (s : Assignments) → Made s → (x p : ℕ) → x < s .domains →
+    ((v : ℤ) → member (domainAt s x p) v ≡ remains (s .trail .entries) x (variableOf s x .initial) v (min (suc p) (s .trail .length)))
+    × Tight (domainAt s x p)
+    × (s .trail .length ≤ suc p → domainAt s x p ≡ domainOf s x)
+
+-- the pruned count is the sum over the entries now on the trail, and never wraps
+abbrev pub CountLaw : Type 0
+CountLaw =
+    (s : Assignments) → Made s →
+    (s .pruned ≡ prunedUpTo (s .trail .entries) (λ x. variableOf s x .initial) (s .trail .length)) × (s .pruned < 18446744073709551616)
+
+-- synchronising to a lower checkpoint gives back the very store from which the next one was last opened, and so every answer of every
+-- question that there is or will be
+abbrev pub BackLaw : Type 0
+BackLaw = (m s : Assignments) (room : ℕ) → Made m → Since m s → entriesAbove s (m .checkpoint) ≤ room → synchroniseStore s (m .checkpoint) room ≡ m
+
+-- and for each lower checkpoint there is such a store
+abbrev pub OpenedLaw : Type 0
+OpenedLaw = (s : Assignments) → Made s → (k : ℕ) → k < s .checkpoint → (m : Assignments) × Made m × (m .checkpoint ≡ k) × Since m s
