@@ -41,7 +41,7 @@ use Rattle.stores.specs.Calls.{growGrounds, growAnswer, growStore, grown
 use Rattle.stores.specs.Made.{Made, Since}
 use Rattle.stores.specs.Replay.{on, remains, replayed}
 use Rattle.stores.specs.Positions.{domainAt}
-use Rattle.stores.specs.Promises.{RefusalLaw, UntouchedLaw, RoomLaw, SetLaw, BoundsLaw, Lost, SomeLeft, AnswerLaw, ReplayLaw, PositionLaw, CountLaw, BackLaw, OpenedLaw}
+use Rattle.stores.specs.Promises.{RefusalLaw, UntouchedLaw, RoomLaw, SameLaw, SetLaw, BoundsLaw, Lost, SomeLeft, AnswerLaw, ReplayLaw, PositionLaw, CountLaw, BackLaw, OpenedLaw}
 use Rattle.stores.specs.Straight.{tidy}
 use Rattle.stores.specs.Meaning.{meant, recorded-own, recorded-other}
 use Rattle.stores.specs.Steps.{replayed-tight, tight-of, post-records}
@@ -110,6 +110,16 @@ room-law s t p a b c = λ i.
     ∷ record { holds = emptied (after (p .kind) (p .value) (b i)); refusal = Empty }
     ∷ [])
     (pick (acts (p .kind) (p .value) (b i)) Post.Changed Post.Unchanged)
+
+pub same-law : SameLaw
+same-law = record {
+  grow = λ s b r t p q i. record { answer = (p .0 ∙ sym (q .0)) i; store = (p .1 ∙ sym (q .1)) i };
+  list = λ s vs r t p q i. record { answer = (p .0 ∙ sym (q .0)) i; store = (p .1 ∙ sym (q .1)) i };
+  post = λ s a why r t p q i. record { answer = (p .0 ∙ sym (q .0)) i; store = (p .1 ∙ sym (q .1)) i };
+  openNext = λ s r t p q i. record { answer = (p .0 ∙ sym (q .0)) i; store = (p .1 ∙ sym (q .1)) i };
+  synchronise = λ s k room r t p q i. record { answer = (p .0 ∙ sym (q .0)) i; store = (p .1 ∙ sym (q .1)) i };
+  look = λ p q. p ∙ sym q;
+}
 
 -- ---- posts
 

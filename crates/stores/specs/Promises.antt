@@ -21,6 +21,10 @@ use Rattle.stores.specs.declared.GrowAnswer.the-variants as Grow
 use Rattle.stores.specs.declared.PostAnswer.the-variants as Post
 use Rattle.stores.specs.declared.OpenAnswer.the-variants as Open
 use Rattle.stores.specs.declared.SynchroniseAnswer.the-variants as Synchronise
+use Rattle.stores.specs.declared.Grew.{Grew}
+use Rattle.stores.specs.declared.Posted.{Posted}
+use Rattle.stores.specs.declared.Opened.{Opened}
+use Rattle.stores.specs.declared.Synchronised.{Synchronised}
 use Rattle.stores.specs.declared.Assignments.{Assignments}
 use Rattle.stores.specs.Refusals.{numberOf, First}
 use Rattle.stores.specs.Store.{variableOf, domainOf}
@@ -51,6 +55,21 @@ pub record UntouchedLaw : Type 0 where
 -- nothing else: room that a synchronise freed is used again
 abbrev pub RoomLaw : Type 0
 RoomLaw = (s t : Assignments) (p : Predicate) → s .domains ≡ t .domains → domainBefore s p ≡ domainBefore t p → s .trail .length ≡ t .trail .length → postAnswer s p ≡ postAnswer t p
+
+-- any two results that conform to a call's statement are equal, lent memory included
+pub record SameLaw : Type 1 where
+  pub grow : (s : Assignments) (b : Bounds) (r t : Grew) →
+      (r .answer ≡ growAnswer s b) × (r .store ≡ growStore s b) → (t .answer ≡ growAnswer s b) × (t .store ≡ growStore s b) → r ≡ t
+  pub list : (s : Assignments) (vs : List ℤ) (r t : Grew) →
+      (r .answer ≡ listAnswer s vs) × (r .store ≡ listStore s vs) → (t .answer ≡ listAnswer s vs) × (t .store ≡ listStore s vs) → r ≡ t
+  pub post : (s : Assignments) (p : Predicate) (why : Reason) (r t : Posted) →
+      (r .answer ≡ postAnswer s p) × (r .store ≡ postStore s p why) → (t .answer ≡ postAnswer s p) × (t .store ≡ postStore s p why) → r ≡ t
+  pub openNext : (s : Assignments) (r t : Opened) →
+      (r .answer ≡ openAnswer s) × (r .store ≡ openStore s) → (t .answer ≡ openAnswer s) × (t .store ≡ openStore s) → r ≡ t
+  pub synchronise : (s : Assignments) (k room : ℕ) (r t : Synchronised) →
+      (r .answer ≡ synchroniseAnswer s k room) × (r .store ≡ synchroniseStore s k room) → (t .answer ≡ synchroniseAnswer s k room) × (t .store ≡ synchroniseStore s k room) → r ≡ t
+  -- a look's answer, and a lent slice, are equal to one thing
+  pub look : {A : Type 0} {x y told : A} → x ≡ told → y ≡ told → x ≡ y
 
 -- ---- Demand 2: posts
 

@@ -1,0 +1,21 @@
+-- `larger` answers by the very test.
+use mir.Facts.{toZ-ofZ}
+use Rattle.creating.proofs.larger.Statement.{statement}
+use Rattle.creating.proofs.larger.Tie as tie
+
+returns : tie.Need-returns
+returns c =
+    let a = toZ-ofZ (c .before .fits .a) in
+    let b = toZ-ofZ (c .before .fits .b) in
+    let test = simp (a, b) at (c .if1 .taken) in
+    simp (b, test)
+
+returns-2 : tie.Need-returns-2
+returns-2 c =
+    let a = toZ-ofZ (c .before .fits .a) in
+    let b = toZ-ofZ (c .before .fits .b) in
+    let test = simp (a, b) at (c .if1 .left) in
+    simp (a, test)
+
+pub larger-spec : {M : Type 1} → statement M
+larger-spec = tie.close (tie.spec returns returns-2)

@@ -1,0 +1,6 @@
+pub mod Parts
+pub mod Dense
+pub mod Spans
+pub mod Windows
+pub mod Walks
+pub mod Sparse

@@ -1,0 +1,10 @@
+pub mod Cases
+pub mod FieldLaws
+pub mod WordLaws
+pub mod SpellingLaws
+pub mod SignLaws
+pub mod NaturalLaws
+pub mod IntegerLaws
+pub mod WritingLaws
+pub mod RoundTrip
+pub mod Examples

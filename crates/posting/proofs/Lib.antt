@@ -1,0 +1,3 @@
+pub mod Deciding
+pub mod Counting
+pub mod Recording

@@ -1,0 +1,165 @@
+// The post: a predicate with its reason, made part of the store. Relies on rules for what it comes to, and on stores.
+use domains::Bounds;
+use domains::Step;
+use pools::Update;
+use predicates::Predicate;
+use predicates::PredicateType;
+use predicates::Reason;
+use predicates::TrailPosition;
+use stores::Assignments;
+use stores::Entry;
+use stores::PostAnswer;
+use stores::Posted;
+use stores::Refusal;
+ghost use mathlib.Core.Path.{_≡_};
+ghost use Rattle.domains.specs.Domain.{isNotEqual, prunedBy};
+ghost use Rattle.stores.specs.Calls.{postAnswer, postStore};
+ghost use Rattle.stores.specs.Made.{Made};
+ghost use Rattle.posting.specs.Answers.{idleAnswer, overflowAnswer, takenAnswer};
+
+fn is_not_equal_predicate(kind: PredicateType) -> bool
+    ensures { λ r. ⌜ r ≡ isNotEqual kind ⌝ }
+{
+    match kind {
+        PredicateType::LowerBound => false,
+        PredicateType::NotEqual => true,
+        PredicateType::Equal => false,
+        PredicateType::UpperBound => false,
+    }
+}
+
+// What a post that does nothing answers.
+fn idle(bounds: Bounds) -> PostAnswer
+    ensures { λ r. ⌜ r ≡ idleAnswer bounds ⌝ }
+{
+    if bounds.upper < bounds.lower {
+        return PostAnswer::Refused(Refusal::Empty);
+    }
+    PostAnswer::Unchanged
+}
+
+// What a post that is recorded answers.
+fn taken(bounds: Bounds) -> PostAnswer
+    ensures { λ r. ⌜ r ≡ takenAnswer bounds ⌝ }
+{
+    if bounds.upper < bounds.lower {
+        return PostAnswer::Refused(Refusal::Empty);
+    }
+    PostAnswer::Changed
+}
+
+// What the removal of the first or the last i32 as the only value left answers: 5 comes before 6.
+fn overflow(entries: usize) -> PostAnswer
+    ensures { λ r. ⌜ r ≡ overflowAnswer entries ⌝ }
+{
+    if Assignments::MAX_ENTRIES <= entries {
+        return PostAnswer::Refused(Refusal::TrailFull);
+    }
+    PostAnswer::Refused(Refusal::StepOverflow)
+}
+
+fn wide(number: u32) -> u64
+    ensures { λ r. ⌜ r ≡ number ⌝ }
+{
+    number as u64
+}
+
+// What an entry adds to the count.
+fn pruned(kind: PredicateType, from: Bounds, to: Bounds) -> u64
+    ensures { λ r. ⌜ r ≡ prunedBy kind from to ⌝ }
+{
+    let below = wide(integers::abs_diff(from.lower, to.lower));
+    let above = wide(integers::abs_diff(from.upper, to.upper));
+    let moved = below + above;
+    if moved == 0 {
+        if is_not_equal_predicate(kind) {
+            return 1;
+        }
+    }
+    moved
+}
+
+// Makes the predicate part of the store. What it comes to is decided on small values; then one entry is recorded, with
+// an update for each bound that moves and a hole for a removed value.
+pub fn post_predicate(mut store: Assignments, predicate: Predicate, reason: Reason) -> Posted
+    requires { ⌜ Made store ⌝ }
+    ensures { λ r. ⌜ (r .answer ≡ postAnswer store predicate) × (r .store ≡ postStore store predicate reason) ⌝ }
+{
+    let x = predicate.domain.0 as usize;
+    let domains = store.domains;
+    if domains <= x {
+        return Posted {
+            answer: PostAnswer::Refused(Refusal::NoVariable),
+            store,
+        };
+    }
+    let was = store.variables[x];
+    let from = was.bounds;
+    let holes = store.holes;
+    let kind = predicate.kind;
+    let at = store.trail.length;
+    match rules::step(holes, was.holes, from, kind, predicate.value) {
+        Step::Nothing => Posted {
+            answer: idle(from),
+            store,
+        },
+        Step::Overflows => Posted {
+            answer: overflow(at),
+            store,
+        },
+        Step::Moves(to) => {
+            if Assignments::MAX_ENTRIES <= at {
+                return Posted {
+                    answer: PostAnswer::Refused(Refusal::TrailFull),
+                    store,
+                };
+            }
+            let mut trail = store.trail;
+            trail.entries[at] = Entry {
+                predicate,
+                old: from,
+                reason,
+            };
+            trail.length = at + 1;
+            store.trail = trail;
+            let position = TrailPosition(at as u16);
+            let mut now = was;
+            now.bounds = to;
+            if from.lower != to.lower {
+                let lower = store.lower;
+                now.lower = (lower.length + 1) as u16;
+                let raised = lower.push(Update {
+                    value: to.lower,
+                    position,
+                    previous: was.lower,
+                });
+                store.lower = raised;
+            }
+            if from.upper != to.upper {
+                let upper = store.upper;
+                now.upper = (upper.length + 1) as u16;
+                let lowered = upper.push(Update {
+                    value: to.upper,
+                    position,
+                    previous: was.upper,
+                });
+                store.upper = lowered;
+            }
+            if is_not_equal_predicate(kind) {
+                now.holes = (holes.length + 1) as u16;
+                let removed = holes.push(Update {
+                    value: predicate.value,
+                    position,
+                    previous: was.holes,
+                });
+                store.holes = removed;
+            }
+            store.variables[x] = now;
+            store.pruned = store.pruned + pruned(kind, from, to);
+            Posted {
+                answer: taken(to),
+                store,
+            }
+        }
+    }
+}
