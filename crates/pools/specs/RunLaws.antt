@@ -1,11 +1,11 @@
 -- Why one window of marks is enough, and why a step over a run is the step of the rules. Assumes nothing.
 -- Tools: a reader of the promises need believe nothing here.
-use Prim.Native.Nat.{ℕ, zero, suc, _+_, _≤_, _<_}
+use Prim.Native.Nat.{ℕ, zero, suc, _+_, _-_, _≤_, _<_}
 use mathlib.Core.Path.{_≡_, refl, sym, ap, _∙_}
 use mathlib.Core.Bool.{Bool, true, false, _||_}
 use mathlib.Core.List.{List, [], _∷_}
-use lib.IntN.{ℤ, pos, negsuc, sucℤ, predℤ, negℤ, _+ℤ_, _-ℤ_}
-use lib.Signed.{_≤ℤ_, _<ℤ_}
+use lib.IntN.{ℤ, pos, negsuc, negℤ, _+ℤ_, _-ℤ_}
+use lib.Signed.{leZ, ltZ, _≤ℤ_, _<ℤ_}
 use lib.ListN.{getD, set, length}
 use lib.Seq.{getD-set-same, getD-set-other}
 use lib.Dec.{ltb, eqb}
@@ -14,15 +14,15 @@ use mir.Val.{SFits}
 use borrow.Author.Tests.{ltb-true, ltb-false, eqb-true, eqb-false}
 use borrow.Author.Count.{below-more}
 use native.Mathlib.Omega.{arith}
-use Rattle.integers.specs.Order.{plus, minus, eqZ, integers, add=, neg=, abs=, suc=, pred=, fits→, →fits}
+use Rattle.integers.specs.Order.{plus, minus, eqZ, integers, add=, neg=, abs=, fits→, →fits}
 use Rattle.integers.specs.Distance.{distance}
 use Rattle.domains.specs.Choice.{pick}
-use Rattle.domains.specs.Domain.{has, raised, lowered}
+use Rattle.domains.specs.Domain.{has, width, raised, lowered}
 use Rattle.domains.specs.Stepping.{raised-is, lowered-is}
-use Rattle.pools.specs.Runs.{shifted, Place, Marked, FirstClear, Run}
+use Rattle.pools.specs.Runs.{shifted, Place, Marked, FirstClear, Steps}
 
 -- the greater of two numbers lies their distance above the smaller
-apart : (a b : ℤ) → a ≤ℤ b → distance a b + (plus a + minus b) ≡ plus b + minus a
+pub apart : (a b : ℤ) → a ≤ℤ b → distance a b + (plus a + minus b) ≡ plus b + minus a
 unfolding distance
 apart a b h = omega (integers, abs= (b -ℤ a), add= b (negℤ a), neg= a)
 
@@ -135,9 +135,16 @@ no-longer (suc n) hs up v held =
     omega arith
 
 -- the first clear mark ends the run, and so does the window's end, since the list is no longer
-pub run-ends : (hs : List ℤ) (up : Bool) (v : ℤ) (marks : List Bool) (r : ℕ) → length hs ≤ 1024 → Marked hs up v marks → FirstClear marks r → Run hs up v r
-run-ends hs up v marks r short m f =
-    record { short = f .within; held = held; ends = go (ltb r 1024) refl (has hs (shifted up v r)) refl }
+pub steps-end :
+    (hs : List ℤ) (up : Bool) (v : ℤ) (marks : List Bool) (r most n : ℕ) → length hs ≤ 1024 → Marked hs up v marks → FirstClear marks r
+    → n ≤ r → n ≤ most → (n < most → n ≡ r) → Steps hs up v most n
+steps-end hs up v marks r most n short m f here within all =
+    record {
+      short = omega (arith, f .within);
+      within = within;
+      held = λ k h. held k (omega arith);
+      ends = λ h. rw (all h) (go (ltb r 1024) refl (has hs (shifted up v r)) refl);
+    }
   where
     held : (k : ℕ) → k < r → has hs (shifted up v k) ≡ true
     held k h = sym (m .tells k (omega (arith, f .within))) ∙ f .set k h
@@ -147,88 +154,64 @@ run-ends hs up v marks r short m f =
     go false p true q = absurd (omega (arith, ltb-false r 1024 p, no-longer (r + 1) hs up v (below-more _ _ held q)))
     go false p false q = refl
 
--- a step up from v, with the upper bound u
-module _ (hs : List ℤ) (u v : ℤ) where
-  -- it goes to where the run ends, or one past the bound
-  ends-up : (n : ℕ) (r : ℤ) → Run hs true v n → v ≤ℤ r → r ≤ℤ (v +ℤ pos n) → r ≤ℤ sucℤ u → (r ≤ℤ u → r ≡ v +ℤ pos n) → r ≡ raised hs u v
-  ends-up n r run low high past end =
+-- the steps up from v, no more than there are values up to u, are the step of the rules; and an i32 has room for it
+pub steps-up :
+    (hs : List ℤ) (u v : ℤ) (n : ℕ) → SFits w32 u → SFits w32 v → (has hs u ≡ true → u <ℤ pos 2147483647) → Steps hs true v (width v u) n
+    → SFits w32 (v +ℤ pos n) × (v +ℤ pos n ≡ raised hs u v)
+steps-up hs u v n fu fv room s =
+    let r = v +ℤ pos n in
+    let sum = add= v (pos n) in
+    let most = s .within in (
+      →fits r (top (leZ r u) refl (ltZ u v) refl) (omega (integers, fits→ v fv)),
       sym
-      (raised-is hs u v r
-      (record {
-        above = low;
-        passed =
-            λ x p q.
-            let same : v +ℤ pos (distance v x) ≡ x = omega (integers, add= v (pos (distance v x)), apart v x p) in
-            (omega (integers, suc= u), rw same at (run .held (distance v x) (omega (integers, add= v (pos n), apart v x p))));
-        stops = λ h. rw (end h) (run .ends);
-      }))
-
-  -- it does not begin past the bound
-  pub stays-up : u <ℤ v → v ≡ raised hs u v
-  stays-up h = sym (raised-is hs u v v (record { above = omega integers; passed = λ x p q. absurd (omega integers); stops = λ p. absurd (omega integers) }))
-
-  module _ (n : ℕ) (fu : SFits w32 u) (fv : SFits w32 v) (le : v ≤ℤ u) (run : Run hs true v n) where
-    -- the run ends within the bound, where an i32 has room
-    pub rests-up : n ≤ distance v u → SFits w32 (v +ℤ pos n) × (v +ℤ pos n ≡ raised hs u v)
-    rests-up h =
-        let r = v +ℤ pos n in
+          (raised-is hs u v r
+          (record {
+            above = omega integers;
+            passed =
+                λ x p q.
+                let k = plus x + minus v - (plus v + minus x) in
+                let same : v +ℤ pos k ≡ x = omega (integers, add= v (pos k)) in
+                (omega integers, rw same at (s .held k (omega integers)));
+            stops = λ h. s .ends (omega integers);
+          })),
+    )
+  where
+    top : (a : Bool) → leZ (v +ℤ pos n) u ≡ a → (b : Bool) → ltZ u v ≡ b → plus (v +ℤ pos n) ≤ minus (v +ℤ pos n) + 2147483647
+    top true p b q = omega (integers, fits→ u fu)
+    top false p true q = omega (integers, fits→ v fv, add= v (pos n), s .within)
+    top false p false q =
         let sum = add= v (pos n) in
-        let room = apart v u le in (
-          →fits r (omega (integers, fits→ u fu)) (omega (integers, fits→ v fv)),
-          ends-up n r run (omega integers) (omega integers) (omega (integers, suc= u)) (λ _. refl),
-        )
+        let most = s .within in
+        let same : v +ℤ pos (n - 1) ≡ u = omega (integers, add= v (pos (n - 1))) in
+        omega (integers, room (rw same at (s .held (n - 1) (omega integers))))
 
-    -- the run takes in the bound, so the bound is a hole, and an i32 has room past it
-    pub passes-up : distance v u < n → (has hs u ≡ true → u <ℤ pos 2147483647) → SFits w32 (u +ℤ pos 1) × (u +ℤ pos 1 ≡ raised hs u v)
-    passes-up h room =
-        let r = u +ℤ pos 1 in
-        let sum = add= u (pos 1) in
-        let far = apart v u le in
-        let same : v +ℤ pos (distance v u) ≡ u = omega (integers, add= v (pos (distance v u))) in
-        let below = room (rw same at (run .held (distance v u) h)) in (
-          →fits r (omega integers) (omega (integers, fits→ u fu)),
-          ends-up n r run (omega integers) (omega (integers, add= v (pos n))) (omega (integers, suc= u)) (λ p. absurd (omega integers)),
-        )
-
--- the mirror image: a step down from v, with the lower bound l
-module _ (hs : List ℤ) (l v : ℤ) where
-  -- it goes to where the run ends, or one below the bound
-  ends-down : (n : ℕ) (r : ℤ) → Run hs false v n → r ≤ℤ v → (v -ℤ pos n) ≤ℤ r → predℤ l ≤ℤ r → (l ≤ℤ r → r ≡ v -ℤ pos n) → r ≡ lowered hs l v
-  ends-down n r run high low past end =
+-- the mirror image: the steps down from v, no more than there are values down to l
+pub steps-down :
+    (hs : List ℤ) (l v : ℤ) (n : ℕ) → SFits w32 l → SFits w32 v → (has hs l ≡ true → negsuc 2147483647 <ℤ l) → Steps hs false v (width l v) n
+    → SFits w32 (v -ℤ pos n) × (v -ℤ pos n ≡ lowered hs l v)
+steps-down hs l v n fl fv room s =
+    let r = v -ℤ pos n in
+    let sum = down= v n in
+    let most = s .within in (
+      →fits r (omega (integers, fits→ v fv)) (bottom (leZ l r) refl (ltZ v l) refl),
       sym
-      (lowered-is hs l v r
-      (record {
-        below = high;
-        passed =
-            λ x p q.
-            let same : v -ℤ pos (distance x v) ≡ x = omega (integers, down= v (distance x v), apart x v p) in
-            (omega (integers, pred= l), rw same at (run .held (distance x v) (omega (integers, down= v n, apart x v p))));
-        stops = λ h. rw (end h) (run .ends);
-      }))
-
-  -- it does not begin below the bound
-  pub stays-down : v <ℤ l → v ≡ lowered hs l v
-  stays-down h = sym (lowered-is hs l v v (record { below = omega integers; passed = λ x p q. absurd (omega integers); stops = λ p. absurd (omega integers) }))
-
-  module _ (n : ℕ) (fl : SFits w32 l) (fv : SFits w32 v) (le : l ≤ℤ v) (run : Run hs false v n) where
-    -- the run ends within the bound, where an i32 has room
-    pub rests-down : n ≤ distance l v → SFits w32 (v -ℤ pos n) × (v -ℤ pos n ≡ lowered hs l v)
-    rests-down h =
-        let r = v -ℤ pos n in
+          (lowered-is hs l v r
+          (record {
+            below = omega integers;
+            passed =
+                λ x p q.
+                let k = plus v + minus x - (plus x + minus v) in
+                let same : v -ℤ pos k ≡ x = omega (integers, down= v k) in
+                (omega integers, rw same at (s .held k (omega integers)));
+            stops = λ h. s .ends (omega integers);
+          })),
+    )
+  where
+    bottom : (a : Bool) → leZ l (v -ℤ pos n) ≡ a → (b : Bool) → ltZ v l ≡ b → minus (v -ℤ pos n) ≤ plus (v -ℤ pos n) + 2147483648
+    bottom true p b q = omega (integers, fits→ l fl)
+    bottom false p true q = omega (integers, fits→ v fv, down= v n, s .within)
+    bottom false p false q =
         let sum = down= v n in
-        let room = apart l v le in (
-          →fits r (omega (integers, fits→ v fv)) (omega (integers, fits→ l fl)),
-          ends-down n r run (omega integers) (omega integers) (omega (integers, pred= l)) (λ _. refl),
-        )
-
-    -- the run takes in the bound, so the bound is a hole, and an i32 has room below it
-    pub passes-down : distance l v < n → (has hs l ≡ true → negsuc 2147483647 <ℤ l) → SFits w32 (l -ℤ pos 1) × (l -ℤ pos 1 ≡ lowered hs l v)
-    passes-down h room =
-        let r = l -ℤ pos 1 in
-        let sum = down= l 1 in
-        let far = apart l v le in
-        let same : v -ℤ pos (distance l v) ≡ l = omega (integers, down= v (distance l v)) in
-        let above = room (rw same at (run .held (distance l v) h)) in (
-          →fits r (omega (integers, fits→ l fl)) (omega integers),
-          ends-down n r run (omega integers) (omega (integers, down= v n)) (omega (integers, pred= l)) (λ p. absurd (omega integers)),
-        )
+        let most = s .within in
+        let same : v -ℤ pos (n - 1) ≡ l = omega (integers, down= v (n - 1)) in
+        omega (integers, room (rw same at (s .held (n - 1) (omega integers))))

@@ -30,8 +30,9 @@ pub record FirstClear (marks : List Bool) (r : ℕ) : Type 0 where
   pub set : (k : ℕ) → k < r → getD marks k false ≡ true
   pub clear : r < 1024 → getD marks r false ≡ false
 
--- r values from a value on, one after the other, are of these, and the next is not
-pub record Run (hs : List ℤ) (up : Bool) (from : ℤ) (r : ℕ) : Type 0 where
-  pub short : r ≤ 1024
-  pub held : (k : ℕ) → k < r → has hs (shifted up from k) ≡ true
-  pub ends : has hs (shifted up from r) ≡ false
+-- n steps from a value on, each at one of these, end at none of them, or are as many as there may be
+pub record Steps (hs : List ℤ) (up : Bool) (from : ℤ) (most n : ℕ) : Type 0 where
+  pub short : n ≤ 1024
+  pub within : n ≤ most
+  pub held : (k : ℕ) → k < n → has hs (shifted up from k) ≡ true
+  pub ends : n < most → has hs (shifted up from n) ≡ false

@@ -5,9 +5,9 @@ ghost use mathlib.Core.Path.{_≡_};
 ghost use mathlib.Core.Bool.{true};
 ghost use lib.IntN.{pos, negsuc};
 ghost use lib.Signed.{_<ℤ_};
-ghost use Rattle.domains.specs.Domain.{has, raised, lowered};
+ghost use Rattle.domains.specs.Domain.{has, width, raised, lowered};
 ghost use Rattle.pools.specs.Chain.{noUpdate, noUpdates, pushed, valuesOf, chainOf, upTo, newestOr};
-ghost use Rattle.pools.specs.Runs.{Place, Marked, FirstClear, Run};
+ghost use Rattle.pools.specs.Runs.{Place, Marked, FirstClear, Steps};
 
 // A bound that moved, or a value that was removed: the value, the entry that did it, and the variable's update before
 // it, counted from 1, with 0 for none.
@@ -151,12 +151,13 @@ impl Pool {
         marks
     }
 
-    // How many of the values from `from` on, one after the other, are the variable's. One window of marks is enough: the
-    // pool has no room for a longer run.
-    fn run(self, newest: u16, from: i32, upwards: bool) -> usize
-        ensures { λ r. ⌜ Run (valuesOf (chainOf (self .updates) newest)) upwards from r ⌝ }
+    // How many of the values from `from` on, one after the other and `most` at the most, are the variable's. One window
+    // of marks is enough: the pool has no room for a longer run.
+    fn steps(self, newest: u16, from: i32, most: usize, upwards: bool) -> usize
+        ensures { λ r. ⌜ Steps (valuesOf (chainOf (self .updates) newest)) upwards from most r ⌝ }
     {
-        first_clear(self.marks(newest, from, upwards))
+        let run = first_clear(self.marks(newest, from, upwards));
+        if run < most { run } else { most }
     }
 
     // Where a lower bound that becomes `from` comes to rest, with these values as holes.
@@ -164,16 +165,8 @@ impl Pool {
         requires { ⌜ (has (valuesOf (chainOf (self .updates) newest)) upper ≡ true → upper <ℤ pos 2147483647) ⌝ }
         ensures { λ r. ⌜ r ≡ raised (valuesOf (chainOf (self .updates) newest)) upper from ⌝ }
     {
-        if upper < from {
-            return from;
-        }
-        let run = self.run(newest, from, true);
-        let room = integers::abs_diff(from, upper) as usize;
-        if run <= room {
-            from + run as i32
-        } else {
-            upper + 1
-        }
+        let steps = self.steps(newest, from, span(from, upper), true);
+        from + steps as i32
     }
 
     // Where an upper bound that becomes `from` comes to rest.
@@ -181,17 +174,19 @@ impl Pool {
         requires { ⌜ (has (valuesOf (chainOf (self .updates) newest)) lower ≡ true → negsuc 2147483647 <ℤ lower) ⌝ }
         ensures { λ r. ⌜ r ≡ lowered (valuesOf (chainOf (self .updates) newest)) lower from ⌝ }
     {
-        if from < lower {
-            return from;
-        }
-        let run = self.run(newest, from, false);
-        let room = integers::abs_diff(lower, from) as usize;
-        if run <= room {
-            from - run as i32
-        } else {
-            lower - 1
-        }
+        let steps = self.steps(newest, from, span(lower, from), false);
+        from - steps as i32
     }
+}
+
+// How many values there are from `from` up to `to`.
+fn span(from: i32, to: i32) -> usize
+    ensures { λ r. ⌜ r ≡ width from to ⌝ }
+{
+    if to < from {
+        return 0;
+    }
+    integers::abs_diff(from, to) as usize + 1
 }
 
 // How far above `from` the value `to` lies; 1,024 where it lies that far or further, or below.

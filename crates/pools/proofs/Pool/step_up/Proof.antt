@@ -1,98 +1,51 @@
--- `step_up` passes the run from `from` on, and no further than one past the upper bound.
-use Prim.Native.Nat.{ℕ, _≤_, _<_}
-use mathlib.Core.Path.{_≡_, _∙_}
-use lib.IntN.{ℤ, pos, _+ℤ_}
+-- `step_up` takes the steps of the run from `from` on, no more than there are values up to the upper bound.
+use mathlib.Core.Path.{_≡_}
+use lib.IntN.{pos, _+ℤ_}
 use mir.Syntax.{w32}
 use mir.Val.{SFits, toZ}
 use mir.Facts.{toZ-ofZ}
 use native.Mathlib.Omega.{arith}
 use borrow.Author.Needs.{needs}
-use Rattle.integers.specs.Order.{integers}
 use Rattle.domains.specs.Domain.{raised}
 use Rattle.pools.specs.Chain.{chainOf, valuesOf}
-use Rattle.pools.specs.RunLaws.{stays-up, rests-up, passes-up}
+use Rattle.pools.specs.RunLaws.{steps-up}
 use Rattle.pools.proofs.Pool.step_up.Statement.{statement}
 use Rattle.pools.proofs.Pool.step_up.Tie as tie
 use Rattle.pools.proofs.Pool.step_up.Reads as reads
 use Rattle.pools.proofs.Pool.step_up.Lts as lts
-use Rattle.integers.proofs.abs_diff.Reads as abs-diff-reads
-use Rattle.pools.proofs.Pool.run.Reads as run-reads
+use Rattle.pools.proofs.Pool.steps.Reads as steps-reads
+use Rattle.pools.proofs.span.Reads as span-reads
 
-returns : tie.Need-returns
-returns c =
-    let s = c .before in
-    let from = toZ-ofZ (s .fits .from) in
-    let test = simp (from, toZ-ofZ (s .fits .upper)) at (c .if1 .taken) in
-    from ∙ stays-up _ (s .args .upper) (s .args .from) (omega integers)
+span-requires : tie.Need-span-requires
+span-requires c κs = search needs
 
-run-requires : tie.Need-run-requires
-run-requires c κs = search needs
-
-abs-diff-requires : tie.Need-abs-diff-requires
-abs-diff-requires c κs = search needs
-
-cast-room : tie.Need-cast-room
-cast-room c = search needs
+steps-requires : tie.Need-steps-requires
+steps-requires c κs = search needs
 
 cast-result : tie.Need-cast-result
 cast-result c = search needs
 
--- after the two calls
-module _ (c : lts.After-abs-diff (run-reads.Asked, run-reads.Learnt, abs-diff-reads.Asked, abs-diff-reads.Learnt) reads.Pre reads.Post) where
-  -- where the function begins
-  abbrev start : lts.Start (run-reads.Asked, run-reads.Learnt, abs-diff-reads.Asked, abs-diff-reads.Learnt) reads.Pre reads.Post
-  start = c .before .before .before
+-- after both calls
+module _ (c : lts.After-steps (span-reads.Asked, span-reads.Learnt, steps-reads.Asked, steps-reads.Learnt) reads.Pre reads.Post) where
+  -- the steps are at most 1,024, so their bits as an i32 are the number itself
+  number : toZ w32 (c .steps .result) ≡ pos (c .steps .result)
+  number = toZ-ofZ {w = w32} {z = pos (c .steps .result)} (record { sfits = omega (arith, c .steps .ensures .short) })
 
-  -- the length of the run
-  abbrev count : ℕ
-  count = c .before .run .result
-
-  -- r is an i32, and where the bound comes to rest
-  abbrev Right : ℤ → Type 0
-  Right r = SFits w32 r × (r ≡ raised (valuesOf (chainOf (start .args .self .updates) (start .args .newest))) (start .args .upper) (start .args .from))
-
-  -- the length is at most 1,024, so its bits as an i32 are its own
-  number : toZ w32 count ≡ pos count
-  number = toZ-ofZ {w = w32} {z = pos count} (record { sfits = omega (arith, c .before .run .ensures .short) })
-
-  -- both arms are right: the run ends within the bound, or takes it in
-  arms : (count ≤ c .abs-diff .result → Right (start .args .from +ℤ pos count)) × (c .abs-diff .result < count → Right (start .args .upper +ℤ pos 1))
-  arms =
-      let from = toZ-ofZ (start .fits .from) in
-      let upper = toZ-ofZ (start .fits .upper) in
-      let test = simp (from, upper) at (c .before .before .if1 .left) in
-      let room = simp (from, upper) at (c .abs-diff .ensures) in
-      let run = simp from at (c .before .run .ensures) in (
-        λ h. rests-up _ _ _ count (start .fits .upper) (start .fits .from) (omega integers) run (omega arith),
-        λ h. passes-up _ _ _ count (start .fits .upper) (start .fits .from) (omega integers) run (omega arith) (start .pre),
-      )
+  -- the sum is an i32, and where the bound comes to rest
+  right :
+      SFits w32 (c .before .before .args .from +ℤ pos (c .steps .result))
+      × (c .before .before .args .from +ℤ pos (c .steps .result) ≡ raised (valuesOf (chainOf (c .before .before .args .self .updates) (c .before .before .args .newest))) (c .before .before .args .upper) (c .before .before .args .from))
+  right =
+      let s = c .before .before in
+      let from = toZ-ofZ (s .fits .from) in
+      let most = simp (from, toZ-ofZ (s .fits .upper)) at (c .before .span .ensures) in
+      steps-up _ _ _ _ (s .fits .upper) (s .fits .from) (s .pre) (simp (from, most) at (c .steps .ensures))
 
 add-result : tie.Need-add-result
-add-result c = simp (toZ-ofZ (start (c .before) .fits .from), number (c .before)) (arms (c .before) .0 (c .if2 .taken) .0)
+add-result c = simp (toZ-ofZ (c .before .before .fits .from), number c) (right c .0)
 
-add-result-2 : tie.Need-add-result-2
-add-result-2 c = simp (toZ-ofZ (start (c .before) .fits .upper)) (arms (c .before) .1 (c .if2 .left) .0)
-
-returns-2 : tie.Need-returns-2
-returns-2 c =
-    let right = arms (c .before) .0 (c .if2 .taken) in
-    simp (toZ-ofZ (start (c .before) .fits .from), number (c .before), toZ-ofZ (right .0)) (right .1)
-
-returns-3 : tie.Need-returns-3
-returns-3 c =
-    let right = arms (c .before) .1 (c .if2 .left) in
-    simp (toZ-ofZ (start (c .before) .fits .upper), toZ-ofZ (right .0)) (right .1)
+returns : tie.Need-returns
+returns c = simp (toZ-ofZ (c .before .before .fits .from), number c, toZ-ofZ (right c .0)) (right c .1)
 
 pub step-up-spec : {M : Type 1} → statement M
-step-up-spec =
-    tie.close
-    (tie.spec
-    returns
-    run-requires
-    abs-diff-requires
-    cast-room
-    cast-result
-    add-result
-    add-result-2
-    returns-2
-    returns-3)
+step-up-spec = tie.close (tie.spec span-requires steps-requires cast-result add-result returns)
