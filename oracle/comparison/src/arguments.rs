@@ -4,6 +4,7 @@ use crate::commands::Mode;
 use crate::full;
 use crate::kinds::{EXHAUSTIVE, KINDS, Kind, kind_named};
 use crate::program::Program;
+use crate::vocabulary::Vocabulary;
 use std::path::PathBuf;
 use std::time::Duration;
 
@@ -20,10 +21,15 @@ are counted and checked for their form.
   --lines N             make sessions until they have N lines; default 100000 without --sessions
   --sessions N          make at least N sessions
   --only KIND           sessions of one kind
+  --commands LIST       leave out the lines of all commands but these: words of docs/RULES.md and
+                        docs/CALLS.md with commas between, as in var,post,open,back,count. Lines
+                        that name no command of the mode stay
   --exhaustive          on top of that, every sequence of three posts on five small domains
   --no-exhaustive       leave these out, also with --full
   --full                2000000 lines, 5000 sessions and --exhaustive; fail if an answer or a
-                        command came too seldom
+                        command came too seldom. With --commands, which must then list var, post
+                        and open, only the listed commands are wanted, and the refusals that they
+                        can give (below)
   --write FOLDER        write the sessions as NAME.MODE.in, and with one program its answers as
                         NAME.MODE.out, into a folder that is new or empty
   --recorded FOLDER     take the mode's sessions and the judge's answers from such a folder; then
@@ -47,6 +53,7 @@ pub enum Only {
 
 pub struct Options {
     pub mode: Mode,
+    pub vocabulary: Vocabulary,
     pub seed: u64,
     pub lines: usize,
     pub sessions: usize,
@@ -79,6 +86,7 @@ struct Said {
     lines: Option<usize>,
     sessions: Option<usize>,
     only: Option<String>,
+    commands: Option<String>,
     exhaustive: Option<bool>,
     full: bool,
     write: Option<PathBuf>,
@@ -120,6 +128,7 @@ fn take_option(
         "--lines" => said.lines = Some(number(option, &value()?)? as usize),
         "--sessions" => said.sessions = Some(number(option, &value()?)? as usize),
         "--only" => said.only = Some(value()?),
+        "--commands" => said.commands = Some(value()?),
         "--exhaustive" => said.exhaustive = Some(true),
         "--no-exhaustive" => said.exhaustive = Some(false),
         "--full" => said.full = true,
@@ -144,6 +153,7 @@ fn finish(said: Said) -> Result<Options, String> {
     let mode = said.mode.unwrap_or(Mode::Trailscript);
     let only = only_of(said.only.as_deref(), mode)?;
     check_together(&said, &only)?;
+    let vocabulary = vocabulary_of(&said, mode)?;
     let usual_lines = match (said.full, said.sessions) {
         (true, _) => full::LINES,
         (false, Some(_)) => 0,
@@ -155,6 +165,7 @@ fn finish(said: Said) -> Result<Options, String> {
         .map(|text| Program::from_command_line(text));
     Ok(Options {
         mode,
+        vocabulary,
         seed: said.seed.unwrap_or(1),
         lines: said.lines.unwrap_or(usual_lines),
         sessions: said
@@ -221,14 +232,35 @@ fn check_together(said: &Said, only: &Only) -> Result<(), String> {
     Ok(())
 }
 
-/// The help text: the usage and the kinds of session.
+/// A full run demands refusals that come about only on stores which these commands make.
+const WANTED_BY_FULL: [&str; 3] = ["var", "post", "open"];
+
+fn vocabulary_of(said: &Said, mode: Mode) -> Result<Vocabulary, String> {
+    let Some(list) = &said.commands else {
+        return Ok(Vocabulary::whole(mode));
+    };
+    let vocabulary = Vocabulary::of_list(mode, list)?;
+    if said.recorded.is_some() {
+        return Err("--commands does not go with --recorded".to_string());
+    }
+    match WANTED_BY_FULL.iter().find(|name| !vocabulary.has(name)) {
+        Some(missing) if said.full => Err(format!(
+            "--full goes only with --commands that list {missing}"
+        )),
+        _ => Ok(vocabulary),
+    }
+}
+
+/// The help text: the usage, the kinds of session and the refusals.
 pub fn help() -> String {
     let kinds: String = KINDS
         .iter()
         .map(|kind| format!("  {:<12}{}\n", kind.name, kind.about))
         .collect();
+    let refusals = full::about_refusals();
     format!(
-        "{USAGE}\nThe kinds of session:\n\n{kinds}  {EXHAUSTIVE:<12}every sequence of three posts\n"
+        "{USAGE}\nThe kinds of session:\n\n{kinds}  {EXHAUSTIVE:<12}every sequence of three posts\n\
+        \nThe refusals that --full demands, each with the commands that can give it:\n\n{refusals}"
     )
 }
 
@@ -267,10 +299,18 @@ mod tests {
             "--full --only small a b",
             "--recorded d a b",
             "--only exhaustive --no-exhaustive a b",
+            "--commands",
+            "--commands frob a b",
+            "--commands post,,open a b",
+            "--commands state a b",
+            "--commands post --recorded d a",
+            "--full --commands var,post a b",
         ] {
             assert!(parsed(text).is_err(), "{text}");
         }
         assert!(parsed("--mode callscript --only rooms -- a b").is_ok());
         assert!(parsed("--write d").is_ok());
+        assert!(parsed("--commands state,post a b").is_ok());
+        assert!(parsed("--full --commands var,post,open a b").is_ok());
     }
 }

@@ -39,26 +39,32 @@ pub fn cases(options: &Options) -> Result<Cases<'_>, String> {
     }
     let exhaustive = options
         .exhaustive
-        .then(|| kinds::exhaustive_sessions(options.mode))
+        .then(|| kinds::exhaustive_sessions(&options.vocabulary))
         .into_iter()
         .flatten();
-    let sessions = drawn_sessions(options).chain(exhaustive);
+    let sessions = drawn_sessions(options).chain(exhaustive.map(Ok));
     Ok(Box::new(sessions.enumerate().map(|(number, session)| {
-        Ok(case_of_session(number, session))
+        session.map(|session| case_of_session(number, session))
     })))
 }
 
-fn drawn_sessions(options: &Options) -> impl Iterator<Item = Session> + '_ {
+/// A list of commands can leave nothing of a kind; without a complaint a run would go on for ever.
+const SESSIONS_WITHOUT_A_LINE: usize = 1_000;
+
+fn drawn_sessions(options: &Options) -> impl Iterator<Item = Result<Session, String>> + '_ {
     let (mut number, mut lines) = (0, 0);
     std::iter::from_fn(move || {
         let enough = lines >= options.lines && number >= options.sessions;
         if enough || matches!(options.only, Only::Exhaustive) {
             return None;
         }
-        let session = kinds::numbered(options.mode, options.seed, number, options.kind());
+        if lines == 0 && number >= SESSIONS_WITHOUT_A_LINE {
+            return Some(Err("--commands leaves no line of the sessions".to_string()));
+        }
+        let session = kinds::numbered(&options.vocabulary, options.seed, number, options.kind());
         number += 1;
         lines += lines_of(&session.bytes).len();
-        Some(session)
+        Some(Ok(session))
     })
 }
 

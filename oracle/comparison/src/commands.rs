@@ -62,6 +62,27 @@ pub struct Command {
     pub fields: &'static [Field],
 }
 
+impl Command {
+    /// The refusals that the call can give (docs/RULES.md, R3). BAD_LINE is not among them, as the
+    /// driver gives it before any call.
+    pub fn refusals(&self) -> &'static [usize] {
+        match self.name {
+            "var" | "list" => &[2, 3, 4, 5],
+            "post" => &[1, 5, 6, 7],
+            "open" => &[8],
+            "back" => &[9],
+            "synchronise" => &[9, 10],
+            "get_trail_entry" => &[11],
+            "find_last_decision" => &[12],
+            "get_reason_for_predicate_brute_force" => &[1, 13],
+            "values_at_checkpoint" => &[11, 10],
+            _ if self.part == Part::Listing => &[1, 10],
+            _ if self.fields.contains(&Field::Variable) => &[1],
+            _ => &[],
+        }
+    }
+}
+
 const fn command(name: &'static str, part: Part, fields: &'static [Field]) -> Command {
     Command { name, part, fields }
 }

@@ -155,9 +155,16 @@ impl Comparison<'_> {
         };
         let deadline = Instant::now() + self.options.reduce_limit;
         let limit = REDUCING_SESSION_LIMIT.min(self.options.session_limit);
+        // A damaged line that loses a field can come to name a command that is not listed.
+        let allowed = |session: &[u8]| {
+            let lines = lines_of(session);
+            lines
+                .iter()
+                .all(|line| self.options.vocabulary.allows(line))
+        };
         let small = reduce(
             &case.session,
-            &mut |session| matches!(again(session, limit), Ok((_, Some(_)))),
+            &mut |session| allowed(session) && matches!(again(session, limit), Ok((_, Some(_)))),
             deadline,
         );
         match again(&small, self.options.session_limit)? {
@@ -169,7 +176,7 @@ impl Comparison<'_> {
     fn judge(&self, page: Option<&str>) -> Outcome {
         let mut complaints = stops::unexplained(&self.counts, page);
         if self.options.full && self.outcome == Outcome::Equal {
-            complaints.extend(full::shortfalls(&self.counts, self.options.mode));
+            complaints.extend(full::shortfalls(&self.counts, &self.options.vocabulary));
         }
         for complaint in &complaints {
             report::say(&format!("not as it should be: {complaint}\n"));

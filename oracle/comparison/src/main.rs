@@ -19,6 +19,7 @@ mod scribe;
 mod session;
 mod sketch;
 mod stops;
+mod vocabulary;
 
 use comparing::Outcome;
 use std::process::ExitCode;

@@ -1,23 +1,26 @@
 //! The scribe writes a session line by line, and keeps the sketch in step with the lines.
 
 use crate::aiming::Aim;
-use crate::commands::{Command, Field, Mode};
+use crate::commands::{Command, Field};
 use crate::random::Random;
 use crate::session::{LINE_LIMIT, ROOM_LIMIT, Session};
 use crate::sketch::{Operator, Post, Sketch};
+use crate::vocabulary::Vocabulary;
 
 pub struct Scribe {
-    pub mode: Mode,
+    pub vocabulary: Vocabulary,
     pub random: Random,
     pub sketch: Sketch,
+    /// The lines drawn so far, those left out too, so that a loop up to a number of lines ends
+    /// whatever is listed.
     pub lines: usize,
     bytes: Vec<u8>,
 }
 
 impl Scribe {
-    pub fn new(mode: Mode, random: Random) -> Scribe {
+    pub fn new(vocabulary: &Vocabulary, random: Random) -> Scribe {
         Scribe {
-            mode,
+            vocabulary: vocabulary.clone(),
             random,
             sketch: Sketch::fresh(),
             lines: 0,
@@ -38,27 +41,46 @@ impl Scribe {
         }
     }
 
-    /// Writes a line that changes no store, or one whose effect the sketch need not know.
+    /// Writes a line that changes no store, or one whose effect the sketch need not know. A line of
+    /// a command that is not listed is left out.
     pub fn line(&mut self, line: impl AsRef<[u8]>) {
-        self.bytes.extend_from_slice(line.as_ref());
-        self.bytes.push(b'\n');
         self.lines += 1;
+        if self.vocabulary.allows(line.as_ref()) {
+            self.bytes.extend_from_slice(line.as_ref());
+            self.bytes.push(b'\n');
+        }
     }
 
     pub fn fields(&mut self, fields: &[String]) {
         self.line(fields.join("\t"));
     }
 
-    pub fn in_callscript(&self) -> bool {
-        self.mode == Mode::Callscript
+    pub fn speaks(&self, command: &str) -> bool {
+        self.vocabulary.has(command)
     }
 
+    /// A listed command of those that fit, if there is one.
+    pub fn some_command(&mut self, fits: fn(&Command) -> bool) -> Option<&'static Command> {
+        let commands: Vec<&Command> = self
+            .vocabulary
+            .commands()
+            .filter(|command| fits(command))
+            .collect();
+        (!commands.is_empty()).then(|| self.random.pick(&commands))
+    }
+
+    /// The sketch has the variable even where `var` is not listed, as the kinds count on theirs.
     pub fn var(&mut self, lower: i64, upper: i64) {
         self.line(format!("var\t{lower}\t{upper}"));
         self.sketch.create_dense(lower, upper);
     }
 
+    /// Where `list` is not listed, `var` stands in, so that later variables keep their numbers.
     pub fn list(&mut self, values: &[i64]) {
+        let ends = values.iter().min().zip(values.iter().max());
+        if let (false, Some((&lower, &upper))) = (self.speaks("list"), ends) {
+            return self.var(lower, upper);
+        }
         let line = list_line(values);
         if line.len() <= LINE_LIMIT {
             self.sketch.create_from_list(values);
@@ -76,7 +98,9 @@ impl Scribe {
             post.operator.name(),
             post.value
         ));
-        self.sketch.post(post);
+        if self.speaks("post") {
+            self.sketch.post(post);
+        }
     }
 
     pub fn post_plain(&mut self, variable: usize, operator: Operator, value: i64) {
@@ -90,10 +114,16 @@ impl Scribe {
 
     pub fn open(&mut self) {
         self.line("open");
-        self.sketch.open();
+        if self.speaks("open") {
+            self.sketch.open();
+        }
     }
 
+    /// Where `back` is not listed, `synchronise` with the same room stands in.
     pub fn back(&mut self, checkpoint: usize) {
+        if !self.speaks("back") {
+            return self.synchronise(checkpoint, ROOM_LIMIT, ROOM_LIMIT);
+        }
         self.line(format!("back\t{checkpoint}"));
         self.sketch.back(checkpoint);
     }
@@ -101,14 +131,16 @@ impl Scribe {
     pub fn synchronise(&mut self, checkpoint: usize, room: usize, second_room: usize) {
         self.line(format!("synchronise\t{checkpoint}\t{room}\t{second_room}"));
         let shorter = room.min(second_room);
-        if room.max(second_room) <= ROOM_LIMIT && shorter >= self.sketch.entries_above(checkpoint) {
+        let is_room =
+            room.max(second_room) <= ROOM_LIMIT && shorter >= self.sketch.entries_above(checkpoint);
+        if is_room && self.speaks("synchronise") {
             self.sketch.back(checkpoint);
         }
     }
 
-    /// Begins anew where the language can; trailscript can only go back to the root.
+    /// Begins anew where `fresh` is at hand; else it can only go back to the root.
     pub fn begin_anew(&mut self) {
-        if self.in_callscript() {
+        if self.speaks("fresh") {
             self.line("fresh");
             self.sketch = Sketch::fresh();
         } else if self.sketch.checkpoint() > 0 {
@@ -117,8 +149,17 @@ impl Scribe {
     }
 
     pub fn state(&mut self) {
-        if self.in_callscript() {
+        if self.speaks("state") {
             self.line("state");
+        }
+    }
+
+    /// Looks at a variable; where `show` is not listed, the whole state has to do.
+    pub fn look_at(&mut self, variable: usize) {
+        if self.speaks("show") {
+            self.show(variable);
+        } else {
+            self.state();
         }
     }
 
@@ -189,10 +230,39 @@ pub fn list_line(values: &[i64]) -> String {
 #[cfg(test)]
 mod tests {
     use super::*;
+    use crate::commands::Mode;
+
+    fn scribe_with(list: &str) -> Scribe {
+        let vocabulary = Vocabulary::of_list(Mode::Callscript, list).unwrap();
+        Scribe::new(&vocabulary, Random::from_seed(1))
+    }
+
+    #[test]
+    fn what_is_not_listed_is_left_out_and_others_stand_in() {
+        let mut scribe = scribe_with("var,open,synchronise");
+        scribe.list(&[4, 1, 2]);
+        scribe.list(&[]);
+        scribe.open();
+        scribe.post_plain(1, Operator::AtLeast, 3);
+        scribe.begin_anew();
+        assert_eq!((scribe.sketch.entries.len(), scribe.lines), (4, 5));
+        assert_eq!(
+            scribe.finish("test").bytes,
+            b"var\t1\t4\nopen\nsynchronise\t0\t1024\t1024\n"
+        );
+    }
+
+    #[test]
+    fn the_sketch_does_not_open_where_the_session_cannot() {
+        let mut scribe = scribe_with("var,back");
+        scribe.open();
+        assert_eq!((scribe.sketch.checkpoint(), scribe.lines), (0, 1));
+    }
 
     #[test]
     fn the_sketch_follows_the_lines() {
-        let mut scribe = Scribe::new(Mode::Callscript, Random::from_seed(1));
+        let whole = Vocabulary::whole(Mode::Callscript);
+        let mut scribe = Scribe::new(&whole, Random::from_seed(1));
         scribe.var(1, 5);
         scribe.open();
         scribe.post_plain(1, Operator::AtLeast, 3);

@@ -230,6 +230,11 @@ fn bad_arguments_are_errors_and_help_is_not() {
     );
     assert_ended(&folder.comparison(&[]), 2, &["no program is given"]);
     assert_ended(
+        &folder.comparison(&["--commands", "post,frob", "a", "b"]),
+        2,
+        &["there is no command \"frob\""],
+    );
+    assert_ended(
         &folder.comparison(&["--differences", "nowhere", "a", "b"]),
         2,
         &["no file nowhere"],
@@ -239,6 +244,46 @@ fn bad_arguments_are_errors_and_help_is_not() {
         0,
         &["usage: comparison", "emptied", "exhaustive"],
     );
+}
+
+/// Refuses the lines of `show` that it can read, as a program does that has not got the command.
+const WITHOUT_SHOW: &str =
+    "awk '/^show/ { print NR \"\\trefused\\t14\"; next } { print NR \"\\tok\" }'";
+
+#[test]
+fn a_program_that_lacks_a_command_is_compared_on_the_others() {
+    let folder = Folder::new("commands");
+    let run = |list: &str| {
+        folder.comparison(&[
+            "--only",
+            "small",
+            "--lines",
+            "2000",
+            "--commands",
+            list,
+            "--",
+            AGREEABLE,
+            WITHOUT_SHOW,
+        ])
+    };
+    assert_ended(&run("var,post,open,back,count"), 0, &["0 differences"]);
+    assert_ended(&run("var,post,show"), 1, &["1 differences"]);
+    assert_ended(&run("synchronise,var"), 0, &["0 differences"]);
+}
+
+#[test]
+fn a_list_that_leaves_nothing_of_a_kind_is_an_error() {
+    let folder = Folder::new("nothing-left");
+    let arguments = [
+        "--mode",
+        "callscript",
+        "--only",
+        "rooms",
+        "--commands",
+        "ask",
+    ];
+    let output = folder.comparison(&[&arguments[..], &["--", AGREEABLE, AGREEABLE]].concat());
+    assert_ended(&output, 2, &["--commands leaves no line"]);
 }
 
 #[test]

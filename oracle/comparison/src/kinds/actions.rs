@@ -42,22 +42,20 @@ pub fn post_on(scribe: &mut Scribe, variable: usize) -> Post {
 pub fn question(scribe: &mut Scribe) {
     let aim = scribe.some_aim();
     match scribe.random.below(20) {
-        0..4 => scribe.ask(aim.variable, aim.predicate.0, aim.predicate.1),
-        4..8 => {
+        0..4 if scribe.speaks("ask") => {
+            scribe.ask(aim.variable, aim.predicate.0, aim.predicate.1);
+        }
+        4..8 if scribe.speaks("at") => {
             let position = scribe.some_position();
             scribe.at(position, aim.variable, aim.predicate.0, aim.predicate.1);
         }
-        8..10 => scribe.show(aim.variable),
-        10 => scribe.line("count"),
+        8..10 if scribe.speaks("show") => scribe.show(aim.variable),
+        10 if scribe.speaks("count") => scribe.line("count"),
         11..13 => scribe.state(),
         _ => {
-            let commands: Vec<&Command> = scribe
-                .mode
-                .commands()
-                .filter(|command| asks(command))
-                .collect();
-            let command = scribe.random.pick(&commands);
-            scribe.call(command, aim);
+            if let Some(command) = scribe.some_command(asks) {
+                scribe.call(command, aim);
+            }
         }
     }
 }
@@ -71,19 +69,19 @@ fn asks(command: &Command) -> bool {
 pub fn refusal(scribe: &mut Scribe) {
     let current = scribe.sketch.checkpoint();
     match scribe.random.below(9) {
-        0 => {
-            let variable = scribe.no_variable();
-            let post = post_on(scribe, variable);
-            scribe.post(post);
-        }
-        1 => {
+        1 if scribe.speaks("show") => {
             let variable = scribe.no_variable();
             scribe.show(variable);
         }
-        2 => {
+        2 if scribe.speaks("at") => {
             let (variable, position) = (scribe.no_variable(), scribe.some_position());
             let operator = scribe.random.pick(&OPERATORS);
             scribe.at(position, variable, operator, 1);
+        }
+        0..3 => {
+            let variable = scribe.no_variable();
+            let post = post_on(scribe, variable);
+            scribe.post(post);
         }
         3 if current > 0 => scribe.var(0, 3),
         4 if current > 0 => scribe.list(&[3, 1]),
@@ -114,7 +112,7 @@ pub fn back(scribe: &mut Scribe) {
         5..8 => scribe.random.below(current),
         _ => 0,
     };
-    if scribe.in_callscript() && scribe.random.chance(30) {
+    if scribe.speaks("synchronise") && scribe.random.chance(30) {
         let room = scribe.sketch.entries_above(checkpoint);
         scribe.synchronise(checkpoint, room, room);
     } else {
@@ -136,7 +134,7 @@ pub fn relieve(scribe: &mut Scribe, create: fn(&mut Scribe)) {
         return back(scribe);
     }
     let worn = scribe.sketch.variables.len() > VARIABLES / 2 || scribe.sketch.room() < 200;
-    if worn && scribe.in_callscript() {
+    if worn && scribe.speaks("fresh") {
         scribe.begin_anew();
     }
     create(scribe);
@@ -152,7 +150,7 @@ pub fn mixed(scribe: &mut Scribe, lines: usize, create: fn(&mut Scribe)) {
             52..59 => back(scribe),
             59..96 => question(scribe),
             96 => refusal(scribe),
-            97 if scribe.in_callscript() && scribe.random.chance(25) => {
+            97 if scribe.speaks("fresh") && scribe.random.chance(25) => {
                 scribe.begin_anew();
                 create(scribe);
             }

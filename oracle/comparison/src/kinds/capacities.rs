@@ -22,7 +22,7 @@ fn variables(scribe: &mut Scribe) {
     let opened_between = scribe.random.chance(30);
     let filled = scribe.random.chance(20);
     scribe.var(-1_000_000, 1_000_000);
-    while scribe.sketch.variables.len() < VARIABLES {
+    while scribe.sketch.variables.len() < VARIABLES && scribe.sketch.checkpoint() == 0 {
         let lower = scribe.random.between(-5, 5);
         match scribe.random.below(20) {
             0 => scribe.list(&[lower, lower + 1, lower]),
@@ -58,7 +58,7 @@ fn checkpoints(scribe: &mut Scribe) {
     scribe.var(0, 1_000_000);
     scribe.var(0, 9);
     for _ in 0..1 + scribe.random.below(3) {
-        while scribe.sketch.checkpoint() < CHECKPOINTS {
+        while may_open(scribe) {
             scribe.open();
             if scribe.random.chance(20) {
                 actions::post(scribe);
@@ -74,12 +74,16 @@ fn checkpoints(scribe: &mut Scribe) {
             .random
             .pick(&[0, CHECKPOINTS - 1, CHECKPOINTS - 2, far]);
         scribe.back(checkpoint);
-        scribe.show(1);
+        scribe.look_at(1);
     }
-    while scribe.sketch.checkpoint() < CHECKPOINTS {
+    while may_open(scribe) {
         scribe.open();
     }
     scribe.open();
+}
+
+fn may_open(scribe: &Scribe) -> bool {
+    scribe.speaks("open") && scribe.sketch.checkpoint() < CHECKPOINTS
 }
 
 /// Lists that need exactly the room that is left, one entry fewer or one more.
@@ -122,7 +126,7 @@ fn trail(scribe: &mut Scribe) {
 
 /// Fills the trail with posts on the wide variable, each of which makes an entry.
 fn fill(scribe: &mut Scribe, percent_of_opens: usize) {
-    while scribe.sketch.room() > 0 {
+    while scribe.speaks("post") && scribe.sketch.room() > 0 {
         if scribe.random.chance(percent_of_opens) {
             scribe.open();
         }

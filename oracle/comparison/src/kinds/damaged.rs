@@ -45,10 +45,10 @@ fn end(scribe: &mut Scribe) {
     }
 }
 
-/// A line that one of the mode's commands would take. It is not written as it stands, so the sketch
+/// A line that one of the listed commands would take. It is not written as it stands, so the sketch
 /// need not know it.
 fn readable_fields(scribe: &mut Scribe) -> Vec<String> {
-    let commands: Vec<&Command> = scribe.mode.commands().collect();
+    let commands: Vec<&Command> = scribe.vocabulary.commands().collect();
     let posts = commands
         .iter()
         .copied()
@@ -118,7 +118,7 @@ fn command_of_the_other_mode(scribe: &mut Scribe) -> Vec<u8> {
     let command = scribe.random.pick(&further);
     let aim = scribe.some_aim();
     let mut fields = scribe.fields_of(command, aim);
-    if scribe.in_callscript() {
+    if scribe.vocabulary.mode == Mode::Callscript {
         fields[0].push('s');
     }
     fields.join("\t").into_bytes()

@@ -50,7 +50,7 @@ fn ascend(scribe: &mut Scribe) {
             2 => scribe.back(0),
             _ => actions::back(scribe),
         }
-        scribe.show(1 + current % 4);
+        scribe.look_at(1 + current % 4);
         actions::question(scribe);
         if scribe.random.chance(40) {
             scribe.open();

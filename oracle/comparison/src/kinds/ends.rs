@@ -71,5 +71,5 @@ fn remove_down_to_the_last(scribe: &mut Scribe) {
     for value in [known.lower, known.upper] {
         scribe.post_plain(variable, Operator::Equal, value);
     }
-    scribe.show(variable);
+    scribe.look_at(variable);
 }

@@ -4,11 +4,12 @@
 //! undoing is tried too.
 
 use crate::aiming::Aim;
-use crate::commands::{Command, Mode, Part};
+use crate::commands::{Command, Part};
 use crate::random::Random;
 use crate::scribe::Scribe;
 use crate::session::Session;
 use crate::sketch::{HIGHEST, LOWEST, OPERATORS, Operator};
+use crate::vocabulary::Vocabulary;
 
 #[derive(Clone, Copy)]
 struct Domain {
@@ -55,16 +56,16 @@ fn predicates(domain: Domain) -> Vec<Predicate> {
         .collect()
 }
 
-pub fn sessions(mode: Mode) -> impl Iterator<Item = Session> {
+pub fn sessions(vocabulary: &Vocabulary) -> impl Iterator<Item = Session> {
     DOMAINS.into_iter().flat_map(move |domain| {
         predicates(domain)
             .into_iter()
-            .map(move |first| session(mode, domain, first))
+            .map(move |first| session(vocabulary, domain, first))
     })
 }
 
-fn session(mode: Mode, domain: Domain, first: Predicate) -> Session {
-    let mut scribe = Scribe::new(mode, Random::from_seed(first.1 as u64));
+fn session(vocabulary: &Vocabulary, domain: Domain, first: Predicate) -> Session {
+    let mut scribe = Scribe::new(vocabulary, Random::from_seed(first.1 as u64));
     (domain.create)(&mut scribe);
     let predicates = predicates(domain);
     for second in &predicates {
@@ -81,14 +82,14 @@ fn sequence(scribe: &mut Scribe, posts: [Predicate; 3]) {
         scribe.post_plain(1, operator, value);
     }
     scribe.state();
-    if !scribe.in_callscript() {
+    if !scribe.speaks("state") {
         scribe.show(1);
         scribe.line("count");
     }
     ask(scribe);
     scribe.back(0);
     scribe.state();
-    if !scribe.in_callscript() {
+    if !scribe.speaks("state") {
         scribe.show(1);
     }
 }
@@ -101,23 +102,24 @@ fn ask(scribe: &mut Scribe) {
         predicate: scribe.some_predicate(1),
     };
     scribe.ask(1, aim.predicate.0, aim.predicate.1);
-    let questions: Vec<&Command> = scribe
-        .mode
-        .commands()
-        .filter(|command| matches!(command.part, Part::Question | Part::Listing))
-        .collect();
-    let command = scribe.random.pick(&questions);
-    scribe.call(command, aim);
+    if let Some(command) = scribe.some_command(is_question_or_listing) {
+        scribe.call(command, aim);
+    }
+}
+
+fn is_question_or_listing(command: &Command) -> bool {
+    matches!(command.part, Part::Question | Part::Listing)
 }
 
 #[cfg(test)]
 mod tests {
     use super::*;
+    use crate::commands::Mode;
 
     #[test]
     fn every_sequence_of_three_posts_is_there_once() {
         let mut sequences = std::collections::BTreeSet::new();
-        for session in sessions(Mode::Trailscript) {
+        for session in sessions(&Vocabulary::whole(Mode::Trailscript)) {
             let text = String::from_utf8(session.bytes).unwrap();
             let head = text.split("open\n").next().unwrap().to_string();
             for sequence in text.split("open\n").skip(1) {

@@ -7,12 +7,12 @@ use crate::sketch::{HIGHEST, LOWEST, Operator};
 
 pub fn write(scribe: &mut Scribe) {
     for _ in 0..12 + scribe.random.below(12) {
-        if scribe.in_callscript() && scribe.sketch.room() < 100 {
+        if scribe.speaks("fresh") && scribe.sketch.room() < 100 {
             scribe.begin_anew();
         }
         create(scribe);
         let newest = scribe.sketch.variables.len() - 1;
-        scribe.show(newest);
+        scribe.look_at(newest);
         for _ in 0..3 {
             let (operator, value) = scribe.some_predicate(newest);
             scribe.ask(newest, operator, value);
@@ -114,10 +114,12 @@ mod tests {
     use super::*;
     use crate::commands::Mode;
     use crate::random::Random;
+    use crate::vocabulary::Vocabulary;
 
     #[test]
     fn a_list_line_has_the_length_asked_for() {
-        let mut scribe = Scribe::new(Mode::Trailscript, Random::from_seed(3));
+        let whole = Vocabulary::whole(Mode::Trailscript);
+        let mut scribe = Scribe::new(&whole, Random::from_seed(3));
         for length in 190..=205 {
             let values = values_of_length(&mut scribe, length);
             assert_eq!(list_line(&values).len(), length);

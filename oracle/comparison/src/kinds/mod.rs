@@ -16,6 +16,7 @@ use crate::commands::Mode;
 use crate::random::Random;
 use crate::scribe::Scribe;
 use crate::session::Session;
+use crate::vocabulary::Vocabulary;
 
 pub struct Kind {
     pub name: &'static str,
@@ -131,12 +132,17 @@ fn round(mode: Mode) -> Vec<&'static Kind> {
 }
 
 /// The session with this number, made from the seed alone.
-pub fn numbered(mode: Mode, seed: u64, number: usize, only: Option<&'static Kind>) -> Session {
+pub fn numbered(
+    vocabulary: &Vocabulary,
+    seed: u64,
+    number: usize,
+    only: Option<&'static Kind>,
+) -> Session {
     let kind = only.unwrap_or_else(|| {
-        let round = round(mode);
+        let round = round(vocabulary.mode);
         round[number % round.len()]
     });
-    let mut scribe = Scribe::new(mode, Random::for_part(seed, number as u64));
+    let mut scribe = Scribe::new(vocabulary, Random::for_part(seed, number as u64));
     (kind.write)(&mut scribe);
     if scribe.random.chance(2) {
         scribe.drop_last_line_feed();
@@ -144,8 +150,8 @@ pub fn numbered(mode: Mode, seed: u64, number: usize, only: Option<&'static Kind
     scribe.finish(kind.name)
 }
 
-pub fn exhaustive_sessions(mode: Mode) -> impl Iterator<Item = Session> {
-    exhaustive::sessions(mode)
+pub fn exhaustive_sessions(vocabulary: &Vocabulary) -> impl Iterator<Item = Session> {
+    exhaustive::sessions(vocabulary)
 }
 
 #[cfg(test)]
@@ -155,17 +161,90 @@ mod tests {
 
     const MODES: [Mode; 2] = [Mode::Trailscript, Mode::Callscript];
 
+    /// The list of a port that has the changes and the looks but no question about a variable.
+    const CHANGES_AND_LOOKS: &str = "fresh,state,var,list,post,open,back,synchronise,count,\
+        get_checkpoint,num_domains,num_trail_entries,get_trail_entry";
+
+    fn listed(list: &str) -> Vocabulary {
+        Vocabulary::of_list(Mode::Callscript, list).unwrap()
+    }
+
+    fn vocabularies() -> [Vocabulary; 3] {
+        let [trailscript, callscript] = MODES.map(Vocabulary::whole);
+        [trailscript, callscript, listed(CHANGES_AND_LOOKS)]
+    }
+
+    /// The commands that the sessions name, and whether some lines name none.
+    fn named(sessions: impl Iterator<Item = Session>) -> (Vec<&'static str>, bool) {
+        let mut names = std::collections::BTreeSet::new();
+        for session in sessions {
+            let lines = lines_of(&session.bytes);
+            names.extend(lines.into_iter().map(|line| {
+                let command = Mode::Callscript.command_of_line(line);
+                command.map_or("", |command| command.name)
+            }));
+        }
+        let damaged = names.remove("");
+        (names.into_iter().collect(), damaged)
+    }
+
+    #[test]
+    fn every_listed_command_is_written_and_no_other() {
+        let vocabulary = listed(CHANGES_AND_LOOKS);
+        let drawn = (0..200).map(|number| numbered(&vocabulary, 1, number, None));
+        let (names, damaged) = named(drawn);
+        let mut wanted: Vec<&str> = CHANGES_AND_LOOKS.split(',').collect();
+        wanted.sort();
+        assert_eq!(names, wanted);
+        assert!(damaged);
+    }
+
+    #[test]
+    fn exhaustive_sessions_name_listed_commands_alone() {
+        let vocabulary = listed("var,list,post,open,synchronise,get_holes");
+        let (names, damaged) = named(exhaustive_sessions(&vocabulary).step_by(9));
+        assert_eq!(
+            names,
+            ["get_holes", "list", "open", "post", "synchronise", "var"]
+        );
+        assert!(!damaged);
+    }
+
+    /// The commands that the kinds build their stores with, each alone and each missing, so that no
+    /// kind counts on one that is not there.
+    #[test]
+    fn every_list_gives_sessions_that_end() {
+        let all: Vec<&str> = Mode::Callscript
+            .commands()
+            .map(|command| command.name)
+            .collect();
+        for name in [
+            "var",
+            "list",
+            "post",
+            "open",
+            "back",
+            "synchronise",
+            "fresh",
+        ] {
+            let others: Vec<&str> = all.iter().copied().filter(|&other| other != name).collect();
+            for list in [name.to_string(), others.join(",")] {
+                let vocabulary = listed(&list);
+                let drawn = (0..35).map(|number| numbered(&vocabulary, 1, number, None));
+                let (names, _) = named(drawn.chain(exhaustive_sessions(&vocabulary).take(1)));
+                assert!(names.iter().all(|name| vocabulary.has(name)), "{list}");
+            }
+        }
+    }
+
     #[test]
     fn the_same_seed_gives_the_same_bytes_and_another_gives_others() {
-        for mode in MODES {
+        for vocabulary in vocabularies() {
+            let bytes = |seed, number| numbered(&vocabulary, seed, number, None).bytes;
             for number in 0..60 {
-                let session = numbered(mode, 5, number, None);
-                assert_eq!(session.bytes, numbered(mode, 5, number, None).bytes);
+                assert_eq!(bytes(5, number), bytes(5, number));
             }
-            assert_ne!(
-                numbered(mode, 5, 0, None).bytes,
-                numbered(mode, 6, 0, None).bytes
-            );
+            assert_ne!(bytes(5, 0), bytes(6, 0));
         }
     }
 
@@ -189,10 +268,11 @@ mod tests {
 
     #[test]
     fn lines_on_both_sides_of_the_limit_are_written() {
+        let whole = Vocabulary::whole(Mode::Trailscript);
         let mut lengths = std::collections::BTreeMap::new();
         for number in 0..200 {
             for kind in ["lists", "damaged"] {
-                let session = numbered(Mode::Trailscript, 1, number, kind_named(kind));
+                let session = numbered(&whole, 1, number, kind_named(kind));
                 for line in lines_of(&session.bytes)
                     .iter()
                     .filter(|line| line.starts_with(b"list\t"))
@@ -239,7 +319,8 @@ mod tests {
 
     #[test]
     fn each_damage_is_met() {
-        let damaged = |number| numbered(Mode::Trailscript, 1, number, kind_named("damaged"));
+        let whole = Vocabulary::whole(Mode::Trailscript);
+        let damaged = |number| numbered(&whole, 1, number, kind_named("damaged"));
         let sessions: Vec<Session> = (0..300).map(damaged).collect();
         for (name, has_it) in DAMAGES {
             let met = |session: &Session| lines_of(&session.bytes).iter().any(|line| has_it(line));

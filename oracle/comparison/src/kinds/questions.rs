@@ -25,11 +25,6 @@ pub fn write(scribe: &mut Scribe) {
 }
 
 fn ask_everything(scribe: &mut Scribe, variable: usize) {
-    let questions: Vec<&Command> = scribe
-        .mode
-        .commands()
-        .filter(|command| command.part == Part::Question)
-        .collect();
     for value in values_around(scribe, variable) {
         for operator in OPERATORS {
             let aim = Aim {
@@ -40,11 +35,16 @@ fn ask_everything(scribe: &mut Scribe, variable: usize) {
             let position = scribe.some_position();
             scribe.at(position, variable, operator, value);
             for _ in 0..3 {
-                let command = scribe.random.pick(&questions);
-                scribe.call(command, aim);
+                if let Some(command) = scribe.some_command(is_question) {
+                    scribe.call(command, aim);
+                }
             }
         }
     }
+}
+
+fn is_question(command: &Command) -> bool {
+    command.part == Part::Question
 }
 
 /// From two below the smallest value ever posted on the variable to two above the largest, and both

@@ -26,12 +26,9 @@ pub fn write(scribe: &mut Scribe) {
 }
 
 fn list(scribe: &mut Scribe) {
-    let listings: Vec<&Command> = scribe
-        .mode
-        .commands()
-        .filter(|command| command.part == Part::Listing)
-        .collect();
-    let command = scribe.random.pick(&listings);
+    let Some(command) = scribe.some_command(|command| command.part == Part::Listing) else {
+        return synchronise_without_room(scribe);
+    };
     let variable = if scribe.random.chance(3) {
         scribe.no_variable()
     } else {
@@ -90,6 +87,22 @@ fn room(scribe: &mut Scribe, length: usize) -> usize {
         12 => scribe.random.below(8),
         13..15 => ROOM_LIMIT,
         _ => ROOM_LIMIT + 1,
+    }
+}
+
+/// Takes a listing's turn where none is listed, as refusal 10 would else be rare. It undoes nothing,
+/// so the session goes on as it would.
+fn synchronise_without_room(scribe: &mut Scribe) {
+    let checkpoint = scribe.random.below(scribe.sketch.checkpoint() + 1);
+    let needed = scribe.sketch.entries_above(checkpoint);
+    if needed == 0 || scribe.random.chance(75) {
+        return;
+    }
+    let (short, other) = (needed - 1, room(scribe, needed));
+    if scribe.random.chance(50) {
+        scribe.synchronise(checkpoint, short, other);
+    } else {
+        scribe.synchronise(checkpoint, other, short);
     }
 }
 
