@@ -26,6 +26,7 @@ use Rattle.backtracking.specs.Traces.{tracesOf, prunedWith}
 
 -- ---- the places that a turn reads are there
 
+-- no length is past its array, and every entry names a place among the variables
 pub record Sound (s : Assignments) : Type 0 where
   pub entries : s .trail .length ≤ 1024
   pub lower : s .lower .length ≤ 1024

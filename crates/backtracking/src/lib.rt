@@ -69,6 +69,7 @@ fn newest(length: usize) -> usize
     if length == 0 { 0 } else { length - 1 }
 }
 
+// `count` less `by`, and 0 where that would fall below 0, as the meaning has it: so no proof need show that it never does.
 fn less(count: u64, by: u64) -> u64
     ensures { λ r. ⌜ r ≡ count - by ⌝ }
 {
