@@ -4,3 +4,4 @@ pub mod Spans
 pub mod Windows
 pub mod Walks
 pub mod Sparse
+pub mod Covering

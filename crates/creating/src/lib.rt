@@ -12,11 +12,13 @@ use stores::GrowAnswer;
 use stores::Refusal;
 use stores::Variable;
 ghost use mathlib.Core.Path.{_≡_};
-ghost use Prim.Native.Nat.{_<_};
+ghost use mathlib.Core.Bool.{true};
+ghost use Prim.Native.Nat.{_+_, _<_};
 ghost use lib.ListN.{length};
-ghost use lib.Signed.{ltZ};
+ghost use lib.Signed.{ltZ, _≤ℤ_};
 ghost use Rattle.predicates.specs.declared.Reason.the-variants.{None};
 ghost use Rattle.domains.specs.Choice.{pick};
+ghost use Rattle.domains.specs.Domain.{width};
 ghost use Rattle.stores.specs.Store.{marked};
 ghost use Rattle.stores.specs.Calls.{notEqual, posted, spanOf, growAnswer, growStore, listAnswer, listStore};
 ghost use Rattle.stores.specs.Made.{Made};
@@ -188,7 +190,7 @@ struct Removed {
 
 // The store without the values between the bounds that are not listed. It gives up at the first for which the trail has no room, so
 // that it passes few more values than there are listed ones, however far apart the bounds lie.
-fn without_missing(mut store: Assignments, id: DomainId, span: Bounds, values: &[i32]) -> Removed
+fn walk_over(mut store: Assignments, id: DomainId, span: Bounds, values: &[i32]) -> Removed
     requires { ⌜ (span ≡ spanOf (now values)) × Walk (now values) store (id .0) (span .lower) store ⌝ }
     ensures { λ r. ⌜ Without (now (values .entry)) store (id .0) r ⌝ }
 {
@@ -211,6 +213,30 @@ fn without_missing(mut store: Assignments, id: DomainId, span: Bounds, values: &
         value += 1;
     }
     Removed { store, full: false }
+}
+
+// Whether there are more values between the bounds than are listed and can be removed.
+fn too_wide(span: Bounds, listed: usize, room: usize) -> bool
+    requires { ⌜ span .lower ≤ℤ span .upper ⌝ }
+    ensures { λ r. ⌜ (r ≡ true → listed + room < width (span .lower) (span .upper)) ⌝ }
+{
+    let last = integers::abs_diff(span.lower, span.upper) as usize;
+    if last < room {
+        return false;
+    }
+    listed <= last - room
+}
+
+// The same, refused before any walk where the bounds lie too far apart for the list and the room.
+fn without_missing(store: Assignments, id: DomainId, span: Bounds, values: &[i32]) -> Removed
+    requires { ⌜ (span ≡ spanOf (now values)) × Walk (now values) store (id .0) (span .lower) store ⌝ }
+    ensures { λ r. ⌜ Without (now (values .entry)) store (id .0) r ⌝ }
+{
+    let room = Assignments::MAX_ENTRIES - store.trail.length;
+    if too_wide(span, values.len(), room) {
+        return Removed { store, full: true };
+    }
+    walk_over(store, id, span, values)
 }
 
 // The store with the variable's mark at the newest entry.

@@ -9,4 +9,3 @@ pub mod Laws
 pub mod Fits
 pub mod Truth
 pub mod TruthLaws
-pub mod Bench

@@ -1,0 +1,5 @@
+pub mod Seen
+pub mod Run
+pub mod Lift
+pub mod Table
+pub mod Checks
