@@ -1,0 +1,4 @@
+pub mod WordLaws
+pub mod ValueLaws
+pub mod RoomLaws
+pub mod Examples

@@ -1,0 +1,49 @@
+-- `evaluate_predicate_at_trail_position` asks for the truth in the domain of the position.
+use mathlib.Core.Path.{_∙_}
+use borrow.Author.Needs.{needs}
+use Rattle.questions.specs.declared.answers.TruthAnswer.the-variants.{Refused}
+use Rattle.questions.specs.Answers.{truth}
+use Rattle.questions.proofs.Reading.{read}
+use Rattle.questions.proofs.Asking.{few, refuses, answers-at}
+use Rattle.questions.proofs.evaluate_predicate_at_trail_position.Statement.{statement}
+use Rattle.questions.proofs.evaluate_predicate_at_trail_position.Tie as tie
+
+find-requires : tie.Need-find-requires
+find-requires c κs = few (c .before .pre)
+
+enum-known-variable : tie.Need-enum-known-variable
+enum-known-variable c = search needs
+
+enum-told : tie.Need-enum-told
+enum-told c = search needs
+
+returns : tie.Need-returns
+returns c =
+    let start = c .before .before .before .before in
+    refuses Refused (start .args .store) (start .args .predicate .domain .0) (c .before .before .find .ensures) _ (c .enum-told .given .1)
+
+bounds-at-requires : tie.Need-bounds-at-requires
+bounds-at-requires c κs = search needs
+
+truth-at-requires : tie.Need-truth-at-requires
+truth-at-requires c κs = search needs
+
+returns-2 : tie.Need-returns-2
+returns-2 c =
+    let known = c .before .before .before .before in
+    let asked = known .before .before in
+    let start = asked .before .before in
+    let value = read (start .args .predicate .value) (c .before .struct-told .given .1 .1 .0 .1) in
+    (simp (value, c .before .before .bounds-at .ensures) at (c .truth-at .ensures)) ∙ answers-at Refused (start .args .store) (start .args .predicate .domain .0) (asked .find .ensures) (truth (start .args .predicate .kind) (start .args .predicate .value)) (start .args .position .0) (known .variable .given .1)
+
+pub evaluate-predicate-at-trail-position-spec : {M : Type 1} → statement M
+evaluate-predicate-at-trail-position-spec =
+    tie.close
+    (tie.spec
+    find-requires
+    enum-known-variable
+    enum-told
+    returns
+    bounds-at-requires
+    truth-at-requires
+    returns-2)

@@ -1,0 +1,54 @@
+-- `is_value_in_domain_at_trail_position` asks the same with the bounds and the holes of the position.
+use mathlib.Core.Path.{ap, _∙_}
+use mir.Facts.{toZ-ofZ}
+use borrow.Author.Needs.{needs}
+use Rattle.questions.specs.declared.answers.YesNo.the-variants.{Refused}
+use Rattle.questions.specs.Answers.{yesNo, contains}
+use Rattle.questions.proofs.Asking.{few, refuses, answers-at}
+use Rattle.questions.proofs.is_value_in_domain_at_trail_position.Statement.{statement}
+use Rattle.questions.proofs.is_value_in_domain_at_trail_position.Tie as tie
+
+find-requires : tie.Need-find-requires
+find-requires c κs = few (c .before .pre)
+
+enum-known-variable : tie.Need-enum-known-variable
+enum-known-variable c = search needs
+
+enum-told : tie.Need-enum-told
+enum-told c = search needs
+
+returns : tie.Need-returns
+returns c =
+    let start = c .before .before .before .before in
+    refuses Refused (start .args .store) (start .args .domain .0) (c .before .before .find .ensures) _ (c .enum-told .given .1)
+
+bounds-at-requires : tie.Need-bounds-at-requires
+bounds-at-requires c κs = search needs
+
+in-domain-at-requires : tie.Need-in-domain-at-requires
+in-domain-at-requires c κs = search needs
+
+answer-requires : tie.Need-answer-requires
+answer-requires c κs = search needs
+
+returns-2 : tie.Need-returns-2
+returns-2 c =
+    let known = c .before .before .before .before in
+    let asked = known .before .before in
+    let start = asked .before .before in
+    let bounds = c .before .before .bounds-at .ensures in
+    let inside = simp (toZ-ofZ (start .fits .value), bounds) at (c .before .in-domain-at .ensures) in
+    c .answer .ensures ∙ ap yesNo inside ∙ answers-at Refused (start .args .store) (start .args .domain .0) (asked .find .ensures) (contains (start .args .value)) (start .args .position .0) (known .variable .given .1)
+
+pub is-value-in-domain-at-trail-position-spec : {M : Type 1} → statement M
+is-value-in-domain-at-trail-position-spec =
+    tie.close
+    (tie.spec
+    find-requires
+    enum-known-variable
+    enum-told
+    returns
+    bounds-at-requires
+    in-domain-at-requires
+    answer-requires
+    returns-2)
