@@ -11,9 +11,8 @@ use Rattle.domains.specs.Domain.{Domain}
 use Rattle.stores.specs.declared.GrowAnswer.{GrowAnswer}
 use Rattle.stores.specs.declared.GrowAnswer.the-variants.{Grown}
 use Rattle.stores.specs.declared.PostAnswer.{PostAnswer}
-use Rattle.stores.specs.declared.PostAnswer.the-variants.{Changed, Unchanged, Refused}
 use Rattle.stores.specs.declared.Assignments.{Assignments}
-use Rattle.stores.specs.Refusals.{numberOf}
+use Rattle.stores.specs.Words.{Told, toldOf}
 use Rattle.stores.specs.Store.{variableOf, domainOf}
 use Rattle.stores.specs.Calls as Calls
 
@@ -76,27 +75,22 @@ pub record Post : Type 0 where
 abbrev pub on : ℕ → Post → Predicate
 on x p = record { domain = record { 0 = x }; kind = p .kind; value = p .value }
 
--- what a post answers, a refusal by its number
-pub data Answer : Type 0 where
-  changed : Answer
-  unchanged : Answer
-  refused : ℕ → Answer
+-- a post's two answers that are no refusal
+abbrev pub changed : Told
+changed = Told.ok 1
+
+abbrev pub unchanged : Told
+unchanged = Told.ok 0
 
 -- a post, its answer, and what is seen then
 pub record Line : Type 0 where
   pub post : Post
-  pub answer : Answer
+  pub answer : Told
   pub sight : Seen
-
--- how the table writes an answer
-abbrev pub said : PostAnswer → Answer
-said Changed = Answer.changed
-said Unchanged = Answer.unchanged
-said (Refused r) = Answer.refused (numberOf r)
 
 -- a post with the store's answer
 abbrev pub line : Post → PostAnswer → Seen → Line
-line p a w = record { post = p; answer = said a; sight = w }
+line p a w = record { post = p; answer = toldOf a; sight = w }
 
 -- posts to variable x one after another, without a reason
 unfoldable pub ran : Assignments → ℕ → List Post → List Line

@@ -8,7 +8,9 @@ use lib.IntN.{ℤ, pos}
 use Rattle.predicates.specs.declared.PredicateType.the-variants.{LowerBound, NotEqual, Equal}
 use Rattle.domains.specs.Fits.{first, last}
 use Rattle.stores.specs.declared.GrowAnswer.the-variants.{Grown}
-use Rattle.bench.specs.Seen.{Seen, Start, fresh, dense, list, Post, Answer, changed, unchanged, refused, Line, shown, begun, looked, created, ran}
+use Rattle.stores.specs.Words.{Told}
+use Rattle.stores.specs.Words.Told.{refused}
+use Rattle.bench.specs.Seen.{Seen, Start, fresh, dense, list, Post, changed, unchanged, Line, shown, begun, looked, created, ran}
 
 -- ---- a check
 
@@ -48,13 +50,13 @@ is l u hs entries mark count = record {
 }
 
 -- a post "at least v", "not v", "equal v", with its answer and what is seen then
-abbrev ge : ℤ → Answer → Seen → Line
+abbrev ge : ℤ → Told → Seen → Line
 ge v a w = record { post = record { kind = LowerBound; value = v }; answer = a; sight = w }
 
-abbrev ne : ℤ → Answer → Seen → Line
+abbrev ne : ℤ → Told → Seen → Line
 ne v a w = record { post = record { kind = NotEqual; value = v }; answer = a; sight = w }
 
-abbrev eq : ℤ → Answer → Seen → Line
+abbrev eq : ℤ → Told → Seen → Line
 eq v a w = record { post = record { kind = Equal; value = v }; answer = a; sight = w }
 
 -- a check of a fresh store, and one of a variable from a list, without posts

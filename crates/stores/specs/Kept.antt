@@ -7,6 +7,7 @@ use mathlib.Core.Logic.{_≢_, _↔_}
 use mathlib.Core.List.{List, [], _∷_}
 use lib.IntN.{ℤ}
 use lib.ListN.{length, getD}
+use lib.Seq.{getD-set-same}
 use lib.Dec.{leb, ltb}
 use lib.Signed.{leZ, ltZ, _≤ℤ_}
 use borrow.Author.Tests.{ltb-true, ltb-false, leb-true, leb-false, ne-eqb}
@@ -28,7 +29,7 @@ use Rattle.domains.specs.Promises.{Tight}
 use Rattle.domains.specs.Laws as Domains
 use Rattle.stores.specs.declared.Entry.{Entry}
 use Rattle.stores.specs.declared.Refusal.{Refusal}
-use Rattle.stores.specs.declared.Refusal.the-variants.{NoVariable, TrailFull, StepOverflow, Empty}
+use Rattle.stores.specs.declared.Refusal.the-variants.{NoVariable, NotRoot, BadDomain, TooManyVariables, TrailFull, StepOverflow, Empty, TooManyCheckpoints, NotLower, NoRoom, NoSuchEntry, NoDecision, NoReason}
 use Rattle.stores.specs.declared.GrowAnswer.the-variants as Grow
 use Rattle.stores.specs.declared.PostAnswer.{PostAnswer}
 use Rattle.stores.specs.declared.PostAnswer.the-variants as Post
@@ -36,7 +37,9 @@ use Rattle.stores.specs.declared.OpenAnswer.the-variants as Open
 use Rattle.stores.specs.declared.SynchroniseAnswer.the-variants as Synchronise
 use Rattle.stores.specs.declared.Assignments.{Assignments}
 use Rattle.stores.specs.Refusals.{numberOf, Ground, decided, First}
-use Rattle.stores.specs.Store.{noEntry, bare, variableOf, domainOf, recorded, allocated, marked, opened}
+use Rattle.stores.specs.Words.{toldOf, reasonOf}
+use Rattle.stores.specs.Words.Told.{ok, refused}
+use Rattle.stores.specs.Store.{noEntry, bare, variableOf, domainOf, entryOf, recorded, allocated, marked, opened}
 use Rattle.stores.specs.Calls.{growGrounds, growAnswer, growStore, grown, fresh, newVariable, spanOf, missing, isEmpty, listAnswer, listStore, listed, domainBefore, does, postGrounds, postAnswer, keeps, postStore, posted, openGrounds, openAnswer, openStore, entriesAbove, unfixed, synchroniseGrounds, synchroniseAnswer, synchroniseStore, synchronised, pairsOf}
 use Rattle.stores.specs.Made.{Made, Since}
 use Rattle.stores.specs.Replay.{on, remains, replayed}
@@ -277,21 +280,77 @@ module _ (s : Assignments) (made : Made s) (p : Predicate) (there : p .domain .0
       gone true q = refl
       gone false q = never (cc)
 
+-- the rules' number tells the answer
+is-unchanged : (a : PostAnswer) → toldOf a ≡ ok 0 → a ≡ Post.Unchanged
+is-unchanged Post.Changed q = never (cc)
+is-unchanged Post.Unchanged q = refl
+is-unchanged (Post.Refused r) q = never (cc)
+
+is-changed : (a : PostAnswer) → toldOf a ≡ ok 1 → a ≡ Post.Changed
+is-changed Post.Changed q = refl
+is-changed Post.Unchanged q = never (cc)
+is-changed (Post.Refused r) q = never (cc)
+
+is-emptied : (a : PostAnswer) → toldOf a ≡ refused 7 → a ≡ Post.Refused Empty
+is-emptied Post.Changed q = never (cc)
+is-emptied Post.Unchanged q = never (cc)
+is-emptied (Post.Refused NoVariable) q = never (cc)
+is-emptied (Post.Refused NotRoot) q = never (cc)
+is-emptied (Post.Refused BadDomain) q = never (cc)
+is-emptied (Post.Refused TooManyVariables) q = never (cc)
+is-emptied (Post.Refused TrailFull) q = never (cc)
+is-emptied (Post.Refused StepOverflow) q = never (cc)
+is-emptied (Post.Refused Empty) q = refl
+is-emptied (Post.Refused TooManyCheckpoints) q = never (cc)
+is-emptied (Post.Refused NotLower) q = never (cc)
+is-emptied (Post.Refused NoRoom) q = never (cc)
+is-emptied (Post.Refused NoSuchEntry) q = never (cc)
+is-emptied (Post.Refused NoDecision) q = never (cc)
+is-emptied (Post.Refused NoReason) q = never (cc)
+
+-- the number in place of the answer
+by-number : {a b : PostAnswer} {X : Type 0} → (toldOf a ≡ toldOf b → a ≡ b) → (a ≡ b) ↔ X → (toldOf a ≡ toldOf b) ↔ X
+by-number tells h = (λ q. h .0 (tells q), λ x. ap toldOf (h .1 x))
+
+-- a post that is taken puts its entry at the trail's end
+Entered : Assignments → Predicate → Reason → Assignments → Type 0
+Entered s p why t =
+    (t .trail .length ≡ suc (s .trail .length))
+    × (entryOf t (s .trail .length) ≡ record { predicate = p; old = variableOf s (p .domain .0) .bounds; reason = why })
+
+posted-enters : (s : Assignments) → Made s → (p : Predicate) (why : Reason) → s .trail .length < 1024 → Entered s p why (posted s p why)
+unfolding posted recorded Entered
+posted-enters s made p why room =
+    (refl, getD-set-same (s .trail .entries) (s .trail .length) _ noEntry (omega (arith, tidy (straight made) .longTrail, room)))
+
 pub answer-law : AnswerLaw
-unfolding postStore Idle Changes Empties
+unfolding postStore Idle Changes Empties Entered
 answer-law = record {
-  unchanged = λ s made p there some. unchanged-law s made p there some None;
-  noEntry = λ s made p why.
+  unchanged = λ s made p there some. by-number (is-unchanged (postAnswer s p)) (unchanged-law s made p there some None);
+  noEntry = λ s made p why q.
       post-split s made p why (λ (a : PostAnswer) (t : Assignments). a ≡ Post.Unchanged → t ≡ s)
       (λ h e. refl) (λ h f e. refl) (λ h f l e. refl) (λ h f l o e. refl)
-      (λ h f l o e. never (taken (emptied (moved (p .kind) (p .value) (domainBefore s p))) e));
-  changed = λ s made p there some. changed-law s made p there some None;
-  emptiedBy = λ s made p there some. emptied-law s made p there some None;
+      (λ h f l o e. never (taken (emptied (moved (p .kind) (p .value) (domainBefore s p))) e))
+      (is-unchanged (postAnswer s p) q);
+  oneEntry = λ s made p why q.
+      let one : Entered s p why (postStore s p why) =
+      post-split s made p why (λ (a : PostAnswer) (t : Assignments). a ≡ Post.Changed → Entered s p why t)
+      (λ h e. never (cc)) (λ h f e. never (idle (emptied (domainBefore s p)) e)) (λ h f l e. never (cc)) (λ h f l o e. never (cc))
+      (λ h f l o e. posted-enters s made p why l)
+      (is-changed (postAnswer s p) q)
+      in
+      (one .0, rw (one .1), rw (one .1), rw (one .1));
+  changed = λ s made p there some. by-number (is-changed (postAnswer s p)) (changed-law s made p there some None);
+  emptiedBy = λ s made p there some. by-number (is-emptied (postAnswer s p)) (emptied-law s made p there some None);
 }
   where
     taken : (b : Bool) → pick b (Post.Refused Empty) Post.Changed ≡ Post.Unchanged → _≡_ {A = ℕ} 0 1
     taken true q = cc
     taken false q = cc
+
+    idle : (b : Bool) → pick b (Post.Refused Empty) Post.Unchanged ≡ Post.Changed → _≡_ {A = ℕ} 0 1
+    idle true q = cc
+    idle false q = cc
 
 -- ---- the trail
 

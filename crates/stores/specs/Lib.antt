@@ -1,4 +1,5 @@
 pub mod Refusals
+pub mod Words
 pub mod Store
 pub mod Calls
 pub mod Made

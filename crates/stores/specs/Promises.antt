@@ -1,5 +1,5 @@
 -- What is promised of the store: statements alone, in the order of the demands. The proofs are in Kept.antt. Believe the definitions that
--- these cite (Refusals, Store, Calls, Made, Replay, Positions, and Domain of domains) and nothing else. Assumes nothing.
+-- these cite (Refusals, Words, Store, Calls, Made, Replay, Positions, and Domain of domains) and nothing else. Assumes nothing.
 use Prim.Native.Nat.{ℕ, suc, _+_, _≤_, _<_, min}
 use mathlib.Core.Bool.{Bool, true, false, _&&_}
 use mathlib.Core.Path.{_≡_}
@@ -16,7 +16,6 @@ use Rattle.domains.specs.declared.Bounds.{Bounds}
 use Rattle.domains.specs.Domain.{satisfies, member, emptied, overflows}
 use Rattle.domains.specs.Promises.{Tight}
 use Rattle.stores.specs.declared.Refusal.{Refusal}
-use Rattle.stores.specs.declared.Refusal.the-variants.{Empty}
 use Rattle.stores.specs.declared.GrowAnswer.the-variants as Grow
 use Rattle.stores.specs.declared.PostAnswer.the-variants as Post
 use Rattle.stores.specs.declared.OpenAnswer.the-variants as Open
@@ -27,7 +26,9 @@ use Rattle.stores.specs.declared.Opened.{Opened}
 use Rattle.stores.specs.declared.Synchronised.{Synchronised}
 use Rattle.stores.specs.declared.Assignments.{Assignments}
 use Rattle.stores.specs.Refusals.{numberOf, First}
-use Rattle.stores.specs.Store.{variableOf, domainOf}
+use Rattle.stores.specs.Words.{toldOf, reasonOf}
+use Rattle.stores.specs.Words.Told.{ok, refused}
+use Rattle.stores.specs.Store.{variableOf, domainOf, entryOf}
 use Rattle.stores.specs.Calls.{growGrounds, growAnswer, growStore, missing, isEmpty, listAnswer, listStore, domainBefore, postGrounds, postAnswer, keeps, postStore, openGrounds, openAnswer, openStore, entriesAbove, synchroniseGrounds, synchroniseAnswer, synchroniseStore, pairsOf}
 use Rattle.stores.specs.Made.{Made, Since}
 use Rattle.stores.specs.Replay.{remains, prunedUpTo}
@@ -93,13 +94,20 @@ Lost s p = (v : ℤ) × (member (domainBefore s p) v ≡ true) × (satisfies (p 
 abbrev pub SomeLeft : Assignments → Predicate → Type 0
 SomeLeft s p = (v : ℤ) × (member (domainBefore s p) v ≡ true) × (satisfies (p .kind) (p .value) v ≡ true)
 
--- where the set before was not empty: unchanged, with the store as it was, exactly when nothing is lost; changed exactly when something
--- is lost, something is left and there is room for the entry; 7 exactly when nothing is left, unless 5 or 6 comes first
+-- 0 is unchanged and 1 is changed. Where the set before was not empty: unchanged, with the store as it was, exactly when nothing is
+-- lost; changed exactly when something is lost, something is left and there is room for the entry; 7 exactly when nothing is left,
+-- unless 5 or 6 comes first
 pub record AnswerLaw : Type 0 where
-  pub unchanged : (s : Assignments) → Made s → (p : Predicate) → p .domain .0 < s .domains → emptied (domainBefore s p) ≡ false → (postAnswer s p ≡ Post.Unchanged) ↔ (Lost s p → ⊥)
-  pub noEntry : (s : Assignments) → Made s → (p : Predicate) (why : Reason) → postAnswer s p ≡ Post.Unchanged → postStore s p why ≡ s
-  pub changed : (s : Assignments) → Made s → (p : Predicate) → p .domain .0 < s .domains → emptied (domainBefore s p) ≡ false → (postAnswer s p ≡ Post.Changed) ↔ (Lost s p × SomeLeft s p × (s .trail .length < 1024))
-  pub emptiedBy : (s : Assignments) → Made s → (p : Predicate) → p .domain .0 < s .domains → emptied (domainBefore s p) ≡ false → (postAnswer s p ≡ Post.Refused Empty) ↔ ((SomeLeft s p → ⊥) × (s .trail .length < 1024) × (overflows (p .kind) (p .value) (domainBefore s p) ≡ false))
+  pub unchanged : (s : Assignments) → Made s → (p : Predicate) → p .domain .0 < s .domains → emptied (domainBefore s p) ≡ false → (toldOf (postAnswer s p) ≡ ok 0) ↔ (Lost s p → ⊥)
+  pub noEntry : (s : Assignments) → Made s → (p : Predicate) (why : Reason) → toldOf (postAnswer s p) ≡ ok 0 → postStore s p why ≡ s
+  -- changed: one entry more, with the predicate, the bounds before and the reason as it was given
+  pub oneEntry : (s : Assignments) → Made s → (p : Predicate) (why : Reason) → toldOf (postAnswer s p) ≡ ok 1 →
+      (postStore s p why .trail .length ≡ suc (s .trail .length))
+      × (entryOf (postStore s p why) (s .trail .length) .predicate ≡ p)
+      × (entryOf (postStore s p why) (s .trail .length) .old ≡ variableOf s (p .domain .0) .bounds)
+      × (reasonOf (entryOf (postStore s p why) (s .trail .length) .reason) ≡ reasonOf why)
+  pub changed : (s : Assignments) → Made s → (p : Predicate) → p .domain .0 < s .domains → emptied (domainBefore s p) ≡ false → (toldOf (postAnswer s p) ≡ ok 1) ↔ (Lost s p × SomeLeft s p × (s .trail .length < 1024))
+  pub emptiedBy : (s : Assignments) → Made s → (p : Predicate) → p .domain .0 < s .domains → emptied (domainBefore s p) ≡ false → (toldOf (postAnswer s p) ≡ refused 7) ↔ ((SomeLeft s p → ⊥) × (s .trail .length < 1024) × (overflows (p .kind) (p .value) (domainBefore s p) ≡ false))
 
 -- ---- Demand 3: the trail
 
