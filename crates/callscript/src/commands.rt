@@ -7,8 +7,8 @@ use predicates::PredicateType;
 use predicates::Reason;
 ghost use Prim.Native.Nat.{_<_};
 
-// The most places that a line can lend.
-const MOST_ROOM: u32 = 1024;
+// The most places that a line can lend; `back` lends as many.
+const MOST_ROOM: usize = 1024;
 
 // A call, or no line that can be read. The values of a list lie beside the command.
 pub enum Command {
@@ -108,8 +108,8 @@ fn read_with_one(name: &[u8], line: &[u8]) -> Command {
     if lines::is_word(name, b"back") {
         return Command::Synchronise {
             checkpoint: number,
-            variables: 1024,
-            lowers: 1024,
+            variables: MOST_ROOM,
+            lowers: MOST_ROOM,
         };
     }
     if lines::is_word(name, b"get_trail_entry") {
@@ -180,10 +180,11 @@ fn read_room(field: &[u8]) -> Room {
     let Natural::Number(number) = lines::read_natural(field) else {
         return Room::Bad;
     };
-    if MOST_ROOM < number {
+    let places = number as usize;
+    if MOST_ROOM < places {
         return Room::Bad;
     }
-    Room::Places(number as usize)
+    Room::Places(places)
 }
 
 fn read_synchronise(line: &[u8]) -> Command {

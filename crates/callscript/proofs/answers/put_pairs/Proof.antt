@@ -1,15 +1,10 @@
-use Prim.Native.Nat.{_+_, _-_, _≤_, _<_}
+-- `put_pairs` is safe and ends: it passes no more pairs than either slice has. Assumes nothing.
+use Prim.Native.Nat.{_-_, _≤_}
 use mathlib.Core.Path.{_≡_}
-use native.Mathlib.Omega.{arith}
 use lib.ListN.{length as size}
 use borrow.Author.Needs.{needs}
 use Rattle.callscript.proofs.answers.put_pairs.Statement.{statement}
 use Rattle.callscript.proofs.answers.put_pairs.Tie as tie
-use Rattle.callscript.proofs.answers.put_pairs.Reads as reads
-use Rattle.callscript.proofs.answers.put_pairs.Lts as lts
-use Rattle.callscript.proofs.answers.put_integer.Reads as put-integer-reads
-use Rattle.callscript.proofs.answers.put_small.Reads as put-small-reads
-use Rattle.callscript.proofs.reading.shorter.Reads as shorter-reads
 
 abbrev Inv-loop : tie.InvT-loop
 Inv-loop out₀ at pairs variables lowers next₀ count pair₀ out next pair = (size out ≡ size out₀) × (count ≤ size variables) × (count ≤ size lowers)
@@ -17,59 +12,45 @@ Inv-loop out₀ at pairs variables lowers next₀ count pair₀ out next pair = 
 abbrev μ-loop : tie.MeasureT-loop
 μ-loop out₀ at pairs variables lowers next₀ count pair₀ out next pair = count - pair
 
--- src/answers.rt:137:32
 shorter-requires : tie.Need-shorter-requires Inv-loop μ-loop
 shorter-requires c κs = search needs
 
--- src/answers.rt:137:9
 shorter-requires-2 : tie.Need-shorter-requires-2 Inv-loop μ-loop
 shorter-requires-2 c κs = search needs
 
--- src/answers.rt:139:5
 loop-holds : tie.Need-loop-holds Inv-loop μ-loop
 loop-holds c = search needs
 
--- src/answers.rt:140:37
 mul-put-small : tie.Need-mul-put-small Inv-loop μ-loop
 mul-put-small c = search needs
 
--- src/answers.rt:140:37
 shared-slice-read-put-small : tie.Need-shared-slice-read-put-small Inv-loop μ-loop
 shared-slice-read-put-small c = search needs
 
--- src/answers.rt:140:9
 put-small-requires : tie.Need-put-small-requires Inv-loop μ-loop
 put-small-requires c κs = search needs
 
--- src/answers.rt:141:39
 mul-put-integer : tie.Need-mul-put-integer Inv-loop μ-loop
 mul-put-integer c = search needs
 
--- src/answers.rt:141:39
 shared-slice-copy-out-put-integer : tie.Need-shared-slice-copy-out-put-integer Inv-loop μ-loop
 shared-slice-copy-out-put-integer c = search needs
 
--- src/answers.rt:141:9
 put-integer-requires : tie.Need-put-integer-requires Inv-loop μ-loop
 put-integer-requires c κs = search needs
 
--- src/answers.rt:142:9
 add-pair : tie.Need-add-pair Inv-loop μ-loop
 add-pair c = search needs
 
--- src/answers.rt:139:5
 loop-less : tie.Need-loop-less Inv-loop μ-loop
 loop-less c = search needs
 
--- src/answers.rt:139:5
 loop-again : tie.Need-loop-again Inv-loop μ-loop
 loop-again c = search needs
 
--- src/answers.rt:135:1
 same-length : tie.Need-same-length Inv-loop μ-loop
 same-length c = search needs
 
--- src/answers.rt:135:1
 returns : tie.Need-returns Inv-loop μ-loop
 returns c = search needs
 

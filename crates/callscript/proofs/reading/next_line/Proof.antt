@@ -1,15 +1,9 @@
-use Prim.Native.Nat.{_+_, _-_, _≤_, _<_}
+-- `next_line` is safe and ends: the turns that are left fall. Assumes nothing.
 use mathlib.Core.Path.{_≡_}
-use native.Mathlib.Omega.{arith}
 use lib.ListN.{length as size}
 use borrow.Author.Needs.{needs}
 use Rattle.callscript.proofs.reading.next_line.Statement.{statement}
 use Rattle.callscript.proofs.reading.next_line.Tie as tie
-use Rattle.callscript.proofs.reading.next_line.Reads as reads
-use Rattle.callscript.proofs.reading.next_line.Lts as lts
-use Rattle.callscript.proofs.reading.Reader.between_lines.Reads as between-lines-reads
-use Rattle.callscript.proofs.reading.refill.Reads as refill-reads
-use Rattle.callscript.proofs.reading.take.Reads as take-reads
 
 abbrev Inv-loop : tie.InvT-loop
 Inv-loop piece₀ line₀ reader₀ turns₀ piece line reader turns = (size piece ≡ size piece₀) × (size line ≡ size line₀)
@@ -17,67 +11,51 @@ Inv-loop piece₀ line₀ reader₀ turns₀ piece line reader turns = (size pie
 abbrev μ-loop : tie.MeasureT-loop
 μ-loop piece₀ line₀ reader₀ turns₀ piece line reader turns = turns
 
--- src/reading.rt:44:9
 between-lines-requires : tie.Need-between-lines-requires Inv-loop μ-loop
 between-lines-requires c κs = search needs
 
--- src/reading.rt:46:5
 loop-holds : tie.Need-loop-holds Inv-loop μ-loop
 loop-holds c = search needs
 
--- src/reading.rt:47:9
 sub-turns : tie.Need-sub-turns Inv-loop μ-loop
 sub-turns c = search needs
 
--- src/reading.rt:48:9
 take-requires : tie.Need-take-requires Inv-loop μ-loop
 take-requires c κs = search needs
 
--- src/reading.rt:50:13
 same-length : tie.Need-same-length Inv-loop μ-loop
 same-length c = search needs
 
--- src/reading.rt:50:13
 same-length-2 : tie.Need-same-length-2 Inv-loop μ-loop
 same-length-2 c = search needs
 
--- src/reading.rt:50:13
 returns : tie.Need-returns Inv-loop μ-loop
 returns c = search needs
 
--- src/reading.rt:53:13
 same-length-3 : tie.Need-same-length-3 Inv-loop μ-loop
 same-length-3 c = search needs
 
--- src/reading.rt:53:13
 same-length-4 : tie.Need-same-length-4 Inv-loop μ-loop
 same-length-4 c = search needs
 
--- src/reading.rt:53:13
 returns-2 : tie.Need-returns-2 Inv-loop μ-loop
 returns-2 c = search needs
 
--- src/reading.rt:55:9
 refill-requires : tie.Need-refill-requires Inv-loop μ-loop
 refill-requires c κs = search needs
 
--- src/reading.rt:46:5
 loop-less : tie.Need-loop-less Inv-loop μ-loop
 loop-less c = search needs
 
--- src/reading.rt:46:5
 loop-again : tie.Need-loop-again Inv-loop μ-loop
 loop-again c = search needs
 
--- src/reading.rt:43:1
 same-length-5 : tie.Need-same-length-5 Inv-loop μ-loop
 same-length-5 c = search needs
 
--- src/reading.rt:43:1
 same-length-6 : tie.Need-same-length-6 Inv-loop μ-loop
 same-length-6 c = search needs
 
--- src/reading.rt:43:1
 returns-3 : tie.Need-returns-3 Inv-loop μ-loop
 returns-3 c = search needs
 

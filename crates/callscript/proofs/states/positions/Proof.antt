@@ -1,14 +1,10 @@
-use Prim.Native.Nat.{_+_, _-_, _≤_, _<_}
+-- `positions` is safe and ends: a turn passes an update of the pool. Assumes nothing.
+use Prim.Native.Nat.{_-_, _≤_}
 use mathlib.Core.Path.{_≡_}
-use native.Mathlib.Omega.{arith}
 use lib.ListN.{length as size}
 use borrow.Author.Needs.{needs}
 use Rattle.callscript.proofs.states.positions.Statement.{statement}
 use Rattle.callscript.proofs.states.positions.Tie as tie
-use Rattle.callscript.proofs.states.positions.Reads as reads
-use Rattle.callscript.proofs.states.positions.Lts as lts
-use Rattle.callscript.proofs.reading.shorter.Reads as shorter-reads
-use Rattle.callscript.proofs.states.place_of.Reads as place-of-reads
 
 abbrev Inv-loop : tie.InvT-loop
 Inv-loop pool count marks₀ at₀ marks at = (size marks ≡ 1025) × (count ≤ 1024)
@@ -16,43 +12,33 @@ Inv-loop pool count marks₀ at₀ marks at = (size marks ≡ 1025) × (count �
 abbrev μ-loop : tie.MeasureT-loop
 μ-loop pool count marks₀ at₀ marks at = count - at
 
--- src/states.rt:75:9
 shorter-requires : tie.Need-shorter-requires Inv-loop μ-loop
 shorter-requires c κs = search needs
 
--- src/states.rt:78:5
 loop-holds : tie.Need-loop-holds Inv-loop μ-loop
 loop-holds c = search needs
 
--- src/states.rt:79:22
 mul-update : tie.Need-mul-update Inv-loop μ-loop
 mul-update c = search needs
 
--- src/states.rt:79:22
 element-copy-out-update : tie.Need-element-copy-out-update Inv-loop μ-loop
 element-copy-out-update c = search needs
 
--- src/states.rt:80:13
 place-of-requires : tie.Need-place-of-requires Inv-loop μ-loop
 place-of-requires c κs = search needs
 
--- src/states.rt:81:9
 array-write-marks : tie.Need-array-write-marks Inv-loop μ-loop
 array-write-marks c = search needs
 
--- src/states.rt:82:9
 add-at : tie.Need-add-at Inv-loop μ-loop
 add-at c = search needs
 
--- src/states.rt:78:5
 loop-less : tie.Need-loop-less Inv-loop μ-loop
 loop-less c = search needs
 
--- src/states.rt:78:5
 loop-again : tie.Need-loop-again Inv-loop μ-loop
 loop-again c = search needs
 
--- src/states.rt:74:1
 returns : tie.Need-returns Inv-loop μ-loop
 returns c = search needs
 

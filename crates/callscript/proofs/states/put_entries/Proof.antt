@@ -1,16 +1,10 @@
-use Prim.Native.Nat.{_+_, _-_, _≤_, _<_}
+-- `put_entries` is safe and ends: a turn passes an entry. Assumes nothing.
+use Prim.Native.Nat.{_-_, _≤_}
 use mathlib.Core.Path.{_≡_}
-use native.Mathlib.Omega.{arith}
 use lib.ListN.{length as size}
 use borrow.Author.Needs.{needs}
 use Rattle.callscript.proofs.states.put_entries.Statement.{statement}
 use Rattle.callscript.proofs.states.put_entries.Tie as tie
-use Rattle.callscript.proofs.states.put_entries.Reads as reads
-use Rattle.callscript.proofs.states.put_entries.Lts as lts
-use Rattle.callscript.proofs.answers.put_end.Reads as put-end-reads
-use Rattle.callscript.proofs.answers.put_entry.Reads as put-entry-reads
-use Rattle.callscript.proofs.reading.shorter.Reads as shorter-reads
-use Rattle.callscript.proofs.states.put_start.Reads as put-start-reads
 
 abbrev Inv-loop : tie.InvT-loop
 Inv-loop out₀ at trail next₀ count position₀ t8 out next position = (size out ≡ size out₀) × (count ≤ 1024)
@@ -18,55 +12,42 @@ Inv-loop out₀ at trail next₀ count position₀ t8 out next position = (size 
 abbrev μ-loop : tie.MeasureT-loop
 μ-loop out₀ at trail next₀ count position₀ t8 out next position = count - position
 
--- src/states.rt:256:9
 shorter-requires : tie.Need-shorter-requires Inv-loop μ-loop
 shorter-requires c κs = search needs
 
--- src/states.rt:258:5
 loop-holds : tie.Need-loop-holds Inv-loop μ-loop
 loop-holds c = search needs
 
--- src/states.rt:259:37
 slice-aggregate-put-start : tie.Need-slice-aggregate-put-start Inv-loop μ-loop
 slice-aggregate-put-start c = search needs
 
--- src/states.rt:259:9
 put-start-requires : tie.Need-put-start-requires Inv-loop μ-loop
 put-start-requires c κs = search needs
 
--- src/states.rt:260:46
 mul-put-entry : tie.Need-mul-put-entry Inv-loop μ-loop
 mul-put-entry c = search needs
 
--- src/states.rt:260:46
 element-copy-out-put-entry : tie.Need-element-copy-out-put-entry Inv-loop μ-loop
 element-copy-out-put-entry c = search needs
 
--- src/states.rt:260:9
 put-entry-requires : tie.Need-put-entry-requires Inv-loop μ-loop
 put-entry-requires c κs = search needs
 
--- src/states.rt:261:9
 put-end-requires : tie.Need-put-end-requires Inv-loop μ-loop
 put-end-requires c κs = search needs
 
--- src/states.rt:262:9
 add-position : tie.Need-add-position Inv-loop μ-loop
 add-position c = search needs
 
--- src/states.rt:258:5
 loop-less : tie.Need-loop-less Inv-loop μ-loop
 loop-less c = search needs
 
--- src/states.rt:258:5
 loop-again : tie.Need-loop-again Inv-loop μ-loop
 loop-again c = search needs
 
--- src/states.rt:254:1
 same-length : tie.Need-same-length Inv-loop μ-loop
 same-length c = search needs
 
--- src/states.rt:254:1
 returns : tie.Need-returns Inv-loop μ-loop
 returns c = search needs
 

@@ -1,18 +1,10 @@
-use Prim.Native.Nat.{_+_, _-_, _≤_, _<_}
+-- `put_holes` is safe and ends: a turn passes a hole. Assumes nothing.
+use Prim.Native.Nat.{_≤_}
 use mathlib.Core.Path.{_≡_}
-use native.Mathlib.Omega.{arith}
 use lib.ListN.{length as size}
 use borrow.Author.Needs.{needs}
 use Rattle.callscript.proofs.states.put_holes.Statement.{statement}
 use Rattle.callscript.proofs.states.put_holes.Tie as tie
-use Rattle.callscript.proofs.states.put_holes.Reads as reads
-use Rattle.callscript.proofs.states.put_holes.Lts as lts
-use Rattle.callscript.proofs.answers.put_end.Reads as put-end-reads
-use Rattle.callscript.proofs.answers.put_natural.Reads as put-natural-reads
-use Rattle.callscript.proofs.reading.shorter.Reads as shorter-reads
-use Rattle.callscript.proofs.states.checkpoint_of.Reads as checkpoint-of-reads
-use Rattle.callscript.proofs.states.flag.Reads as flag-reads
-use Rattle.callscript.proofs.states.put_update.Reads as put-update-reads
 
 abbrev Inv-loop : tie.InvT-loop
 Inv-loop out₀ at variable opened kept moved-lower moved-upper next₀ left₀ t14 out next left = (size out ≡ size out₀) × (left ≤ 1024)
@@ -20,71 +12,54 @@ Inv-loop out₀ at variable opened kept moved-lower moved-upper next₀ left₀ 
 abbrev μ-loop : tie.MeasureT-loop
 μ-loop out₀ at variable opened kept moved-lower moved-upper next₀ left₀ t14 out next left = left
 
--- src/states.rt:161:9
 shorter-requires : tie.Need-shorter-requires Inv-loop μ-loop
 shorter-requires c κs = search needs
 
--- src/states.rt:162:5
 loop-holds : tie.Need-loop-holds Inv-loop μ-loop
 loop-holds c = search needs
 
--- src/states.rt:163:9
 sub-left : tie.Need-sub-left Inv-loop μ-loop
 sub-left c = search needs
 
--- src/states.rt:164:22
 mul-update : tie.Need-mul-update Inv-loop μ-loop
 mul-update c = search needs
 
--- src/states.rt:164:22
 element-copy-out-update : tie.Need-element-copy-out-update Inv-loop μ-loop
 element-copy-out-update c = search needs
 
--- src/states.rt:169:13
 slice-aggregate-put-update : tie.Need-slice-aggregate-put-update Inv-loop μ-loop
 slice-aggregate-put-update c = search needs
 
--- src/states.rt:172:13
 checkpoint-of-requires : tie.Need-checkpoint-of-requires Inv-loop μ-loop
 checkpoint-of-requires c κs = search needs
 
--- src/states.rt:166:9
 put-update-requires : tie.Need-put-update-requires Inv-loop μ-loop
 put-update-requires c κs = search needs
 
--- src/states.rt:174:48
 flag-requires : tie.Need-flag-requires Inv-loop μ-loop
 flag-requires c κs = search needs
 
--- src/states.rt:174:9
 put-natural-requires : tie.Need-put-natural-requires Inv-loop μ-loop
 put-natural-requires c κs = search needs
 
--- src/states.rt:175:48
 flag-requires-2 : tie.Need-flag-requires-2 Inv-loop μ-loop
 flag-requires-2 c κs = search needs
 
--- src/states.rt:175:9
 put-natural-requires-2 : tie.Need-put-natural-requires-2 Inv-loop μ-loop
 put-natural-requires-2 c κs = search needs
 
--- src/states.rt:176:9
 put-end-requires : tie.Need-put-end-requires Inv-loop μ-loop
 put-end-requires c κs = search needs
 
--- src/states.rt:162:5
 loop-less : tie.Need-loop-less Inv-loop μ-loop
 loop-less c = search needs
 
--- src/states.rt:162:5
 loop-again : tie.Need-loop-again Inv-loop μ-loop
 loop-again c = search needs
 
--- src/states.rt:150:1
 same-length : tie.Need-same-length Inv-loop μ-loop
 same-length c = search needs
 
--- src/states.rt:150:1
 returns : tie.Need-returns Inv-loop μ-loop
 returns c = search needs
 

@@ -1,16 +1,10 @@
-use Prim.Native.Nat.{_+_, _-_, _≤_, _<_}
+-- `put_updates` is safe and ends: a turn passes an update. Assumes nothing.
+use Prim.Native.Nat.{_≤_}
 use mathlib.Core.Path.{_≡_}
-use native.Mathlib.Omega.{arith}
 use lib.ListN.{length as size}
 use borrow.Author.Needs.{needs}
 use Rattle.callscript.proofs.states.put_updates.Statement.{statement}
 use Rattle.callscript.proofs.states.put_updates.Tie as tie
-use Rattle.callscript.proofs.states.put_updates.Reads as reads
-use Rattle.callscript.proofs.states.put_updates.Lts as lts
-use Rattle.callscript.proofs.answers.put_end.Reads as put-end-reads
-use Rattle.callscript.proofs.reading.shorter.Reads as shorter-reads
-use Rattle.callscript.proofs.states.checkpoint_of.Reads as checkpoint-of-reads
-use Rattle.callscript.proofs.states.put_update.Reads as put-update-reads
 
 abbrev Inv-loop : tie.InvT-loop
 Inv-loop out₀ at word variable opened kept next₀ left₀ out next left = (size out ≡ size out₀) × (left ≤ 1024)
@@ -18,51 +12,39 @@ Inv-loop out₀ at word variable opened kept next₀ left₀ out next left = (si
 abbrev μ-loop : tie.MeasureT-loop
 μ-loop out₀ at word variable opened kept next₀ left₀ out next left = left
 
--- src/states.rt:125:9
 shorter-requires : tie.Need-shorter-requires Inv-loop μ-loop
 shorter-requires c κs = search needs
 
--- src/states.rt:126:5
 loop-holds : tie.Need-loop-holds Inv-loop μ-loop
 loop-holds c = search needs
 
--- src/states.rt:127:9
 sub-left : tie.Need-sub-left Inv-loop μ-loop
 sub-left c = search needs
 
--- src/states.rt:128:22
 mul-update : tie.Need-mul-update Inv-loop μ-loop
 mul-update c = search needs
 
--- src/states.rt:128:22
 element-copy-out-update : tie.Need-element-copy-out-update Inv-loop μ-loop
 element-copy-out-update c = search needs
 
--- src/states.rt:136:13
 checkpoint-of-requires : tie.Need-checkpoint-of-requires Inv-loop μ-loop
 checkpoint-of-requires c κs = search needs
 
--- src/states.rt:130:9
 put-update-requires : tie.Need-put-update-requires Inv-loop μ-loop
 put-update-requires c κs = search needs
 
--- src/states.rt:138:9
 put-end-requires : tie.Need-put-end-requires Inv-loop μ-loop
 put-end-requires c κs = search needs
 
--- src/states.rt:126:5
 loop-less : tie.Need-loop-less Inv-loop μ-loop
 loop-less c = search needs
 
--- src/states.rt:126:5
 loop-again : tie.Need-loop-again Inv-loop μ-loop
 loop-again c = search needs
 
--- src/states.rt:116:1
 same-length : tie.Need-same-length Inv-loop μ-loop
 same-length c = search needs
 
--- src/states.rt:116:1
 returns : tie.Need-returns Inv-loop μ-loop
 returns c = search needs
 

@@ -1,13 +1,10 @@
-use Prim.Native.Nat.{_+_, _-_, _≤_, _<_}
+-- `updates_of` is safe and ends: a link leads down, and no more updates are kept than were passed. Assumes nothing.
+use Prim.Native.Nat.{_+_, _≤_}
 use mathlib.Core.Path.{_≡_}
-use native.Mathlib.Omega.{arith}
 use lib.ListN.{length as size}
 use borrow.Author.Needs.{needs}
 use Rattle.callscript.proofs.states.updates_of.Statement.{statement}
 use Rattle.callscript.proofs.states.updates_of.Tie as tie
-use Rattle.callscript.proofs.states.updates_of.Reads as reads
-use Rattle.callscript.proofs.states.updates_of.Lts as lts
-use Rattle.pools.proofs.Update.blank.Reads as blank-reads
 
 abbrev Inv-loop : tie.InvT-loop
 Inv-loop newest pool updates₀ count₀ below₀ link₀ updates count below link = (count + below ≤ 1024) × (size updates ≡ 1024)
@@ -15,55 +12,42 @@ Inv-loop newest pool updates₀ count₀ below₀ link₀ updates count below li
 abbrev μ-loop : tie.MeasureT-loop
 μ-loop newest pool updates₀ count₀ below₀ link₀ updates count below link = below
 
--- src/states.rt:46:9
 blank-requires : tie.Need-blank-requires Inv-loop μ-loop
 blank-requires c κs = search needs
 
--- src/states.rt:51:5
 loop-holds : tie.Need-loop-holds Inv-loop μ-loop
 loop-holds c = search needs
 
--- src/states.rt:53:13
 returns : tie.Need-returns Inv-loop μ-loop
 returns c = search needs
 
--- src/states.rt:55:21
 sub-place : tie.Need-sub-place Inv-loop μ-loop
 sub-place c = search needs
 
--- src/states.rt:56:22
 mul-update : tie.Need-mul-update Inv-loop μ-loop
 mul-update c = search needs
 
--- src/states.rt:56:22
 element-copy-out-update : tie.Need-element-copy-out-update Inv-loop μ-loop
 element-copy-out-update c = search needs
 
--- src/states.rt:57:9
 mul-updates : tie.Need-mul-updates Inv-loop μ-loop
 mul-updates c = search needs
 
--- src/states.rt:57:9
 array-set-from-updates : tie.Need-array-set-from-updates Inv-loop μ-loop
 array-set-from-updates c = search needs
 
--- src/states.rt:58:9
 add-count : tie.Need-add-count Inv-loop μ-loop
 add-count c = search needs
 
--- src/states.rt:60:16
 cast-link : tie.Need-cast-link Inv-loop μ-loop
 cast-link c = search needs
 
--- src/states.rt:51:5
 loop-less : tie.Need-loop-less Inv-loop μ-loop
 loop-less c = search needs
 
--- src/states.rt:51:5
 loop-again : tie.Need-loop-again Inv-loop μ-loop
 loop-again c = search needs
 
--- src/states.rt:45:1
 returns-2 : tie.Need-returns-2 Inv-loop μ-loop
 returns-2 c = search needs
 
