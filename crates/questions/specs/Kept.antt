@@ -22,13 +22,10 @@ use Rattle.stores.specs.Positions.{domainAt}
 use Rattle.stores.specs.Kept as Stores
 use Rattle.questions.specs.declared.answers.TruthAnswer.the-variants as Told
 use Rattle.questions.specs.Answers.{yesNo, inWords, lowest, highest, contains, isOne, assigned, assignedValue, truth}
-use Rattle.questions.specs.Promises.{remainsAt, remainsNow, Some, None, Only, All, Said, About, PositionLaw, NowLaw, PastLaw, RefusalLaw, OneAnswerLaw}
+use Rattle.questions.specs.Promises.{remainsAt, remainsNow, Some, None, Only, All, Said, About, PositionLaw, NowLaw, PastLaw, RefusalLaw}
 
 pub refusal-law : RefusalLaw
 refusal-law A refused s x answer = (λ h. rw (le-leb _ _ h), λ h. rw (lt-leb _ _ h))
-
-pub one-answer-law : OneAnswerLaw
-one-answer-law A answer r t p q = p ∙ sym q
 
 -- what a domain tells, said
 said : Domain → Said

@@ -109,14 +109,10 @@ NowLaw = (s : Assignments) → Made s → (x : ℕ) → x < s .domains → About
 abbrev pub PastLaw : Type 0
 PastLaw = (s : Assignments) → Made s → (x p : ℕ) → s .trail .length ≤ suc p → saidAt s x p ≡ saidNow s x
 
--- ---- Demand 1: refusals, and answers that nothing else fits
+-- ---- Demand 1: refusals. Each question's statement is one equation, so two conforming answers are equal by SameLaw of stores
 
 -- a question is refused with 1 where there is no such variable, and else answered
 abbrev pub RefusalLaw : Type 1
 RefusalLaw =
     (A : Type 0) (refused : Refusal → A) (s : Assignments) (x : ℕ) (answer : A) →
     (s .domains ≤ x → asked refused s x answer ≡ refused NoVariable) × (x < s .domains → asked refused s x answer ≡ answer)
-
--- two results that meet the statement of a question, which is one equation for each, are equal
-abbrev pub OneAnswerLaw : Type 1
-OneAnswerLaw = (A : Type 0) (answer r t : A) → r ≡ answer → t ≡ answer → r ≡ t
