@@ -225,21 +225,21 @@ pub enum EntryAnswer {
 }
 
 pub struct Grew {
-    pub answer: GrowAnswer,
     pub store: Assignments,
+    pub answer: GrowAnswer,
 }
 
 pub struct Posted {
-    pub answer: PostAnswer,
     pub store: Assignments,
+    pub answer: PostAnswer,
 }
 
 pub struct Opened {
-    pub answer: OpenAnswer,
     pub store: Assignments,
+    pub answer: OpenAnswer,
 }
 
 pub struct Synchronised {
-    pub answer: SynchroniseAnswer,
     pub store: Assignments,
+    pub answer: SynchroniseAnswer,
 }
