@@ -1,66 +1,76 @@
--- What each outcome of `step` tells: whether the post does something, whether it overflows, and the bounds after it. Each outcome stands in
--- one branch of `stepOf` alone. Assumes nothing.
-use Prim.Native.Nat.{ℕ, _<_}
+-- What a decision tells of the store that it was read from: `decision` tests in the order of `postGrounds`, so each of its cases is one
+-- case of a post. For `post_predicate`, and for a caller that keeps the store. Assumes nothing.
+use Prim.Native.Nat.{_<_}
+use mathlib.Core.Bool.{true, false, not}
+use mathlib.Core.Path.{_≡_, refl, sym, ap, subst}
 use lib.Dec.{leb}
-use borrow.Author.Tests.{leb-true, leb-false}
-use mathlib.Core.Bool.{Bool, true, false}
-use mathlib.Core.Path.{_≡_, refl}
-use lib.IntN.{ℤ}
-use native.Mathlib.Omega.{arith}
-use Rattle.predicates.specs.declared.PredicateType.{PredicateType}
-use Rattle.domains.specs.declared.Bounds.{Bounds}
-use Rattle.domains.specs.declared.Step.{Step}
-use Rattle.domains.specs.declared.Step.the-variants.{Nothing, Overflows, Moves}
-use Rattle.domains.specs.Choice.{pick}
+use borrow.Author.Tests.{leb-true, leb-false, not-true, not-false}
 use Rattle.predicates.specs.declared.Predicate.{Predicate}
 use Rattle.predicates.specs.declared.Reason.{Reason}
+use Rattle.domains.specs.declared.Bounds.{Bounds}
+use Rattle.domains.specs.Domain.{overflows}
+use Rattle.domains.specs.Tests.{by-cases, picked}
+use Rattle.rules.specs.Kept.{domainIn, Sound}
+use Rattle.stores.specs.declared.Variable.{Variable}
 use Rattle.stores.specs.declared.Assignments.{Assignments}
-use Rattle.stores.specs.declared.PostAnswer.the-variants.{Refused}
-use Rattle.stores.specs.declared.Refusal.the-variants.{TrailFull, StepOverflow}
-use Rattle.stores.specs.Calls.{domainBefore, does, postAnswer, postStore}
-use Rattle.stores.specs.Cases.{post-full, post-overflows}
-use Rattle.posting.specs.Answers.{overflowAnswer}
-use Rattle.domains.specs.Domain.{Domain, acts, overflows, lowerAfter, upperAfter, stepOf}
+use Rattle.stores.specs.declared.PostAnswer.{PostAnswer}
+use Rattle.stores.specs.Store.{variableOf, domainOf}
+use Rattle.stores.specs.Calls.{domainBefore, boundsAfter, does, postAnswer, postStore}
+use Rattle.stores.specs.Cases.{post-absent, post-idle, post-full, post-overflows}
+use Rattle.stores.specs.Made.{Made}
+use Rattle.stores.specs.History.{straight}
+use Rattle.stores.specs.Straight.{tidy}
+use Rattle.stores.specs.Steps.{tight-of, fits-of}
+use Rattle.posting.specs.declared.Decision.{Decision}
+use Rattle.posting.specs.declared.Decision.the-variants.{Stays, Moves}
+use Rattle.posting.specs.Decision.{decision}
 
-never : {A : Type 0} → _≡_ {A = ℕ} 0 1 → A
-never e = absurd (omega arith)
+-- a post that is to be recorded: there is the variable, something is to be done, there is room, nothing overflows, and where the bounds go
+pub record Recordable (s : Assignments) (p : Predicate) (to : Bounds) : Type 0 where
+  pub there : p .domain .0 < s .domains
+  pub acting : does s p ≡ true
+  pub room : s .trail .length < 1024
+  pub fitting : overflows (p .kind) (p .value) (domainBefore s p) ≡ false
+  pub aimed : to ≡ boundsAfter s p
 
-module _ (k : PredicateType) (v : ℤ) (d : Domain) where
-  -- the bounds after the post
-  abbrev pub after′ : Bounds
-  after′ = record { lower = lowerAfter k v d; upper = upperAfter k v d }
+-- the record `w` is that of the predicate's variable, if there is one
+module _ (s : Assignments) (q : Made s) (p : Predicate) (w : Variable) (own : p .domain .0 < s .domains → w ≡ variableOf s (p .domain .0)) where
+  -- what `decide` requires
+  pub reads-sound : p .domain .0 < s .domains → Sound (domainIn (s .holes) (w .holes) (w .bounds))
+  unfolding domainOf
+  reads-sound there =
+      subst (λ (v : Variable). Sound (domainIn (s .holes) (v .holes) (v .bounds))) (sym (own there))
+      (record { tight = tight-of s (straight q) (p .domain .0) there; fits = fits-of s (straight q) (p .domain .0) there })
 
-  pub nothing-idle : Nothing ≡ stepOf k v d → acts k v d ≡ false
-  unfolding stepOf
-  nothing-idle e = go (acts k v d) (overflows k v d) e
-    where
-      go : (a b : Bool) → Nothing ≡ pick a (pick b Overflows (Moves after′)) Nothing → a ≡ false
-      go true true q = never (cc)
-      go true false q = never (cc)
-      go false b q = refl
+  -- what each decision tells
+  abbrev Tells : Decision → Type 0
+  Tells (Stays a) = (r : Reason) → (a ≡ postAnswer s p) × (s ≡ postStore s p r)
+  Tells (Moves to) = Recordable s p to
 
-  pub overflow-tells : Overflows ≡ stepOf k v d → (acts k v d ≡ true) × (overflows k v d ≡ true)
-  unfolding stepOf
-  overflow-tells e = go (acts k v d) (overflows k v d) e
-    where
-      go : (a b : Bool) → Overflows ≡ pick a (pick b Overflows (Moves after′)) Nothing → (a ≡ true) × (b ≡ true)
-      go true true q = (refl, refl)
-      go true false q = never (cc)
-      go false b q = never (cc)
+  of-own : Tells (decision (variableOf s (p .domain .0)) (s .domains) (s .holes) (s .trail .length) p)
+  unfolding decision domainOf
+  of-own =
+      picked Tells (leb (s .domains) (p .domain .0)) (λ absent r. post-absent s p r (leb-true _ _ absent))
+      (λ some. let there = leb-false (s .domains) (p .domain .0) some in
+      picked Tells (not (does s p)) (λ idle r. post-idle s p r there (not-true (does s p) idle) (tidy (straight q) .entries))
+      (λ acts. let acting = not-false (does s p) acts in
+      picked Tells (leb 1024 (s .trail .length)) (λ full r. post-full s p r there acting (leb-true _ _ full))
+      (λ free. let room = leb-false 1024 (s .trail .length) free in
+      picked Tells (overflows (p .kind) (p .value) (domainBefore s p)) (λ over r. post-overflows s p r there acting room over)
+      (λ fitting. record { there = there; acting = acting; room = room; fitting = fitting; aimed = refl }))))
 
-  pub moves-tell : (to : Bounds) → Moves to ≡ stepOf k v d → (acts k v d ≡ true) × (overflows k v d ≡ false) × (to ≡ after′)
-  unfolding stepOf
-  moves-tell to e = go (acts k v d) (overflows k v d) e
-    where
-      go : (a b : Bool) → Moves to ≡ pick a (pick b Overflows (Moves after′)) Nothing → (a ≡ true) × (b ≡ false) × (to ≡ after′)
-      go true true q = never (cc)
-      go true false q = (refl, refl, cc)
-      go false b q = never (cc)
+  -- where there is no variable the record is not read
+  reads-own : decision (variableOf s (p .domain .0)) (s .domains) (s .holes) (s .trail .length) p ≡ decision w (s .domains) (s .holes) (s .trail .length) p
+  unfolding decision
+  reads-own =
+      by-cases (leb (s .domains) (p .domain .0)) (λ absent. rw absent)
+      (λ some. ap (λ (v : Variable). decision v (s .domains) (s .holes) (s .trail .length) p) (sym (own (leb-false _ _ some))))
 
--- 5 comes before 6
-pub overflow-case : (s : Assignments) (p : Predicate) (r : Reason) → p .domain .0 < s .domains → does s p ≡ true → overflows (p .kind) (p .value) (domainBefore s p) ≡ true → (overflowAnswer (s .trail .length) ≡ postAnswer s p) × (s ≡ postStore s p r)
-overflow-case s p r there acting over = go (leb 1024 (s .trail .length)) refl
-  where
-    go : (b : Bool) → leb 1024 (s .trail .length) ≡ b → (pick b (Refused TrailFull) (Refused StepOverflow) ≡ postAnswer s p) × (s ≡ postStore s p r)
-    go true e = post-full s p r there acting (leb-true _ _ e)
-    go false e = post-overflows s p r there acting (leb-false _ _ e) over
+  tells : Tells (decision w (s .domains) (s .holes) (s .trail .length) p)
+  tells = subst Tells reads-own of-own
+
+  pub stays-tell : (r : Reason) (a : PostAnswer) → decision w (s .domains) (s .holes) (s .trail .length) p ≡ Stays a → (a ≡ postAnswer s p) × (s ≡ postStore s p r)
+  stays-tell r a e = subst Tells e tells r
+
+  pub moves-tell : (to : Bounds) → decision w (s .domains) (s .holes) (s .trail .length) p ≡ Moves to → Recordable s p to
+  moves-tell to e = subst Tells e tells

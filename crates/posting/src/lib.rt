@@ -1,6 +1,7 @@
 // The post: a predicate with its reason, made part of the store. Relies on rules for what it comes to, and on stores.
 use domains::Bounds;
 use domains::Step;
+use pools::Pool;
 use pools::Update;
 use predicates::Predicate;
 use predicates::PredicateType;
@@ -11,11 +12,21 @@ use stores::Entry;
 use stores::PostAnswer;
 use stores::Posted;
 use stores::Refusal;
+use stores::Variable;
 ghost use mathlib.Core.Path.{_≡_};
+ghost use Prim.Native.Nat.{_<_};
 ghost use Rattle.domains.specs.Domain.{isNotEqual, prunedBy};
+ghost use Rattle.rules.specs.Kept.{domainIn, Sound};
 ghost use Rattle.stores.specs.Calls.{postAnswer, postStore};
 ghost use Rattle.stores.specs.Made.{Made};
 ghost use Rattle.posting.specs.Answers.{idleAnswer, overflowAnswer, takenAnswer};
+ghost use Rattle.posting.specs.Decision.{decision};
+
+// What a post comes to: an answer that leaves the store as it is, or bounds that are to be recorded.
+pub enum Decision {
+    Stays(PostAnswer),
+    Moves(Bounds),
+}
 
 fn is_not_equal_predicate(kind: PredicateType) -> bool
     ensures { λ r. ⌜ r ≡ isNotEqual kind ⌝ }
@@ -79,41 +90,61 @@ fn pruned(kind: PredicateType, from: Bounds, to: Bounds) -> u64
     moved
 }
 
+// Decided on what a post reads of the store, the record of its variable among it, so that a host that keeps a store need
+// not hand it over for a post that leaves it as it is. Where there is no such variable, any record will do.
+pub fn decide(
+    variable: Variable,
+    domains: usize,
+    holes: Pool,
+    entries: usize,
+    predicate: Predicate,
+) -> Decision
+    requires { ⌜ (predicate .domain .0 < domains → Sound (domainIn holes (variable .holes) (variable .bounds))) ⌝ }
+    ensures { λ r. ⌜ r ≡ decision variable domains holes entries predicate ⌝ }
+{
+    if domains <= predicate.domain.0 as usize {
+        return Decision::Stays(PostAnswer::Refused(Refusal::NoVariable));
+    }
+    let bounds = variable.bounds;
+    let kind = predicate.kind;
+    match rules::step(holes, variable.holes, bounds, kind, predicate.value) {
+        Step::Nothing => Decision::Stays(idle(bounds)),
+        Step::Overflows => Decision::Stays(overflow(entries)),
+        Step::Moves(to) => {
+            if Assignments::MAX_ENTRIES <= entries {
+                return Decision::Stays(PostAnswer::Refused(Refusal::TrailFull));
+            }
+            Decision::Moves(to)
+        }
+    }
+}
+
 // Makes the predicate part of the store. What it comes to is decided on small values; then one entry is recorded, with
-// an update for each bound that moves and a hole for a removed value.
+// an update for each bound that moves and a hole for a removed value. Each arm returns, as an arm's value would be one
+// more copy of the store.
 pub fn post_predicate(mut store: Assignments, predicate: Predicate, reason: Reason) -> Posted
     requires { ⌜ Made store ⌝ }
     ensures { λ r. ⌜ (r .answer ≡ postAnswer store predicate) × (r .store ≡ postStore store predicate reason) ⌝ }
 {
     let x = predicate.domain.0 as usize;
     let domains = store.domains;
+    // `decide` tests this too, but is handed the record
     if domains <= x {
         return Posted {
-            answer: PostAnswer::Refused(Refusal::NoVariable),
             store,
+            answer: PostAnswer::Refused(Refusal::NoVariable),
         };
     }
     let was = store.variables[x];
-    let from = was.bounds;
     let holes = store.holes;
-    let kind = predicate.kind;
     let at = store.trail.length;
-    match rules::step(holes, was.holes, from, kind, predicate.value) {
-        Step::Nothing => Posted {
-            answer: idle(from),
-            store,
-        },
-        Step::Overflows => Posted {
-            answer: overflow(at),
-            store,
-        },
-        Step::Moves(to) => {
-            if Assignments::MAX_ENTRIES <= at {
-                return Posted {
-                    answer: PostAnswer::Refused(Refusal::TrailFull),
-                    store,
-                };
-            }
+    match decide(was, domains, holes, at, predicate) {
+        Decision::Stays(answer) => {
+            return Posted { store, answer };
+        }
+        Decision::Moves(to) => {
+            let from = was.bounds;
+            let kind = predicate.kind;
             let mut trail = store.trail;
             trail.entries[at] = Entry {
                 predicate,
@@ -156,10 +187,8 @@ pub fn post_predicate(mut store: Assignments, predicate: Predicate, reason: Reas
             }
             store.variables[x] = now;
             store.pruned = store.pruned + pruned(kind, from, to);
-            Posted {
-                answer: taken(to),
-                store,
-            }
+            let answer = taken(to);
+            return Posted { store, answer };
         }
     }
 }
