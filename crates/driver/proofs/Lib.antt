@@ -1,0 +1,4 @@
+pub mod ListLaws
+pub mod PlaceLaws
+pub mod ReplyLaws
+pub mod RunLaws

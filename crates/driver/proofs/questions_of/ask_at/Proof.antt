@@ -1,0 +1,40 @@
+-- `ask_at` refuses or asks, as `about`.
+use mathlib.Core.Path.{_≡_, refl, ap, _∙_}
+use mir.Facts.{toZ-ofZ}
+use borrow.Author.Needs.{needs}
+use borrow.Author.Tests.{le-leb, lt-leb}
+use Rattle.questions.specs.Answers.{truth}
+use Rattle.questions.specs.Parts.{within, holesAt}
+use Rattle.replies.specs.Replies.{truthReply}
+use Rattle.driver.proofs.questions_of.ask_at.Statement.{statement}
+use Rattle.driver.proofs.questions_of.ask_at.Tie as tie
+
+cast-if1 : tie.Need-cast-if1
+cast-if1 c = search needs
+
+returns : tie.Need-returns
+returns c = rw (le-leb _ _ (c .if1 .taken)) refl
+
+bounds-at-requires : tie.Need-bounds-at-requires
+bounds-at-requires c κs = search needs
+
+truth-at-requires : tie.Need-truth-at-requires
+truth-at-requires c κs = search needs
+
+of-truth-requires : tie.Need-of-truth-requires
+of-truth-requires c κs = search needs
+
+returns-2 : tie.Need-returns-2
+returns-2 c =
+    let told = c .before in
+    let bounds = told .before in
+    let place = bounds .before in
+    let start = place .before .before in
+    let a = start .args in
+    rw (lt-leb _ _ (place .if1 .left))
+    (c .of-truth .ensures ∙ ap truthReply (told .truth-at .ensures ∙ (λ i. truth (a .kind) (toZ-ofZ (start .fits .value) i) (within (bounds .bounds-at .ensures i) (holesAt (a .holes) (a .variable .holes) (a .position .0))))))
+
+pub ask-at-spec : {M : Type 1} → statement M
+ask-at-spec =
+    tie.close
+    (tie.spec cast-if1 returns bounds-at-requires truth-at-requires of-truth-requires returns-2)
