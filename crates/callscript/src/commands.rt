@@ -1,14 +1,15 @@
 // What a line asks for (docs/CALLS.md). A group of commands has a function of its own, so that a further command is a line in one of them.
+use crate::fields::Cause;
+use crate::fields::MOST_ROOM;
+use crate::fields::Room;
+use crate::fields::Spelt;
+use crate::fields::read_predicate;
+use crate::fields::read_reason;
+use crate::fields::read_room;
 use lines::Integer;
 use lines::Natural;
-use predicates::DomainId;
 use predicates::Predicate;
-use predicates::PredicateType;
 use predicates::Reason;
-ghost use Prim.Native.Nat.{_<_};
-
-// The most places that a line can lend; `back` lends as many.
-const MOST_ROOM: usize = 1024;
 
 // A call, or no line that can be read. The values of a list lie beside the command.
 pub enum Command {
@@ -170,23 +171,6 @@ fn read_list(line: &[u8], values: &mut [i32]) -> Command {
     Command::List { count: at - 1 }
 }
 
-// Places that a line lends.
-enum Room {
-    Places(usize),
-    Bad,
-}
-
-fn read_room(field: &[u8]) -> Room {
-    let Natural::Number(number) = lines::read_natural(field) else {
-        return Room::Bad;
-    };
-    let places = number as usize;
-    if MOST_ROOM < places {
-        return Room::Bad;
-    }
-    Room::Places(places)
-}
-
 fn read_synchronise(line: &[u8]) -> Command {
     let Natural::Number(checkpoint) = lines::read_natural(lines::field(line, 1)) else {
         return Command::Bad;
@@ -202,68 +186,6 @@ fn read_synchronise(line: &[u8]) -> Command {
         variables,
         lowers,
     }
-}
-
-// A predicate that three fields spell.
-enum Spelt {
-    Claim(Predicate),
-    Bad,
-}
-
-enum Operator {
-    Kind(PredicateType),
-    Bad,
-}
-
-enum Cause {
-    Reason(Reason),
-    Bad,
-}
-
-fn read_operator(field: &[u8]) -> Operator {
-    if lines::is_word(field, b"ge") {
-        return Operator::Kind(PredicateType::LowerBound);
-    }
-    if lines::is_word(field, b"le") {
-        return Operator::Kind(PredicateType::UpperBound);
-    }
-    if lines::is_word(field, b"ne") {
-        return Operator::Kind(PredicateType::NotEqual);
-    }
-    if lines::is_word(field, b"eq") {
-        return Operator::Kind(PredicateType::Equal);
-    }
-    Operator::Bad
-}
-
-fn read_reason(field: &[u8]) -> Cause {
-    if lines::is_word(field, b"-") {
-        return Cause::Reason(Reason::None);
-    }
-    match lines::read_natural(field) {
-        Natural::Number(number) => Cause::Reason(Reason::Given(number)),
-        Natural::Bad => Cause::Bad,
-    }
-}
-
-// The predicate of the fields from `first` on: variable, operator and value.
-fn read_predicate(line: &[u8], first: usize) -> Spelt
-    requires { ⌜ first < 5 ⌝ }
-{
-    let Natural::Number(number) = lines::read_natural(lines::field(line, first)) else {
-        return Spelt::Bad;
-    };
-    let Operator::Kind(kind) = read_operator(lines::field(line, first + 1)) else {
-        return Spelt::Bad;
-    };
-    let Integer::Number(value) = lines::read_integer(lines::field(line, first + 2)) else {
-        return Spelt::Bad;
-    };
-    Spelt::Claim(Predicate {
-        domain: DomainId::new(number),
-        kind,
-        value,
-    })
 }
 
 fn read_post(line: &[u8]) -> Command {

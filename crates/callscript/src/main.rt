@@ -2,6 +2,7 @@
 // Relies on all crates of the store, on lines for the text, and on io and libc.
 mod answers;
 mod commands;
+mod fields;
 mod reading;
 mod states;
 
