@@ -6,6 +6,9 @@ use crate::fields::Spelt;
 use crate::fields::read_predicate;
 use crate::fields::read_reason;
 use crate::fields::read_room;
+use crate::questions_asked::Asked;
+use crate::questions_asked::Question;
+use crate::questions_asked::read_question;
 use lines::Integer;
 use lines::Natural;
 use predicates::Predicate;
@@ -16,7 +19,8 @@ pub enum Command {
     Bad,
     Fresh,
     State,
-    Ask(Look),
+    Look(Look),
+    Question(Question),
     Grow {
         lower: i32,
         upper: i32,
@@ -52,6 +56,14 @@ pub fn read_command(line: &[u8], values: &mut [i32]) -> Command {
         return read_list(line, values);
     }
     let count = lines::field_count(line);
+    match read_question(name, line, count) {
+        Asked::Question(question) => Command::Question(question),
+        Asked::Bad => read_other(name, line, count),
+    }
+}
+
+// A command that is no question about a variable, by the number of its fields.
+fn read_other(name: &[u8], line: &[u8], count: usize) -> Command {
     if count == 1 {
         return read_alone(name);
     }
@@ -87,16 +99,16 @@ fn read_alone(name: &[u8]) -> Command {
 // A question without fields.
 fn read_look(name: &[u8]) -> Command {
     if lines::is_word(name, b"count") {
-        return Command::Ask(Look::PrunedValues);
+        return Command::Look(Look::PrunedValues);
     }
     if lines::is_word(name, b"get_checkpoint") {
-        return Command::Ask(Look::Checkpoint);
+        return Command::Look(Look::Checkpoint);
     }
     if lines::is_word(name, b"num_domains") {
-        return Command::Ask(Look::Domains);
+        return Command::Look(Look::Domains);
     }
     if lines::is_word(name, b"num_trail_entries") {
-        return Command::Ask(Look::TrailEntries);
+        return Command::Look(Look::TrailEntries);
     }
     Command::Bad
 }
@@ -114,7 +126,7 @@ fn read_with_one(name: &[u8], line: &[u8]) -> Command {
         };
     }
     if lines::is_word(name, b"get_trail_entry") {
-        return Command::Ask(Look::TrailEntry(number));
+        return Command::Look(Look::TrailEntry(number));
     }
     Command::Bad
 }

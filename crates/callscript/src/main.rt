@@ -3,6 +3,8 @@
 mod answers;
 mod commands;
 mod fields;
+mod questions_answered;
+mod questions_asked;
 mod reading;
 mod states;
 
@@ -32,7 +34,7 @@ fn command_of(line: &[u8], reader: Reader, values: &mut [i32]) -> Command {
     commands::read_command(reading::used(line, reader.length), values)
 }
 
-// The answer to a question.
+// The answer to a look.
 fn put_look(out: &mut [u8], at: usize, line: u64, store: Assignments, look: Look) -> usize
     requires { ⌜ Made store ⌝ }
 {
@@ -97,8 +99,12 @@ fn answer_lines(
                 at = answers::put_done(out, at, number);
                 at = states::put_state(out, at, store);
             }
-            Command::Ask(look) => {
+            Command::Look(look) => {
                 at = put_look(out, at, number, store, look);
+            }
+            Command::Question(question) => {
+                let answer = questions_answered::answer_of(store, question);
+                at = questions_answered::put_answer(out, at, number, answer);
             }
             Command::Grow { lower, upper } => {
                 let grew = creating::grow(store, lower, upper);

@@ -114,6 +114,21 @@ loop-less-4 c = search needs
 loop-again-4 : tie.Need-loop-again-4 Inv-loop μ-loop
 loop-again-4 c = search needs
 
+enum-known-question : tie.Need-enum-known-question Inv-loop μ-loop
+enum-known-question c = search needs
+
+answer-of-requires : tie.Need-answer-of-requires Inv-loop μ-loop
+answer-of-requires c κs = search needs
+
+put-answer-requires : tie.Need-put-answer-requires Inv-loop μ-loop
+put-answer-requires c κs = search needs
+
+loop-less-5 : tie.Need-loop-less-5 Inv-loop μ-loop
+loop-less-5 c = search needs
+
+loop-again-5 : tie.Need-loop-again-5 Inv-loop μ-loop
+loop-again-5 c = search needs
+
 enum-known-lower : tie.Need-enum-known-lower Inv-loop μ-loop
 enum-known-lower c = search needs
 
@@ -123,13 +138,13 @@ grow-requires c κs = search needs
 put-grown-requires : tie.Need-put-grown-requires Inv-loop μ-loop
 put-grown-requires c κs = search needs
 
-loop-less-5 : tie.Need-loop-less-5 Inv-loop μ-loop
-loop-less-5 c = omega (arith, c .before .before .before .before .before .before .before .before .before .before .before .before .before .before .before .before .before .loop-test .taken)
+loop-less-6 : tie.Need-loop-less-6 Inv-loop μ-loop
+loop-less-6 c = omega (arith, c .before .before .before .before .before .before .before .before .before .before .before .before .before .before .before .before .before .loop-test .taken)
 
-loop-again-5 : tie.Need-loop-again-5 Inv-loop μ-loop
-loop-again-5 c =
+loop-again-6 : tie.Need-loop-again-6 Inv-loop μ-loop
+loop-again-6 c =
     let l = c .before .before .before .before .before .before .before .before .before .before .before .before .before .before .before .before .before .before .loop in
-    (let told = c .before .before .before .before .known-told2 .given in let lower : SFits w32 (c .before .before .before .before .before .lower .given .0 .0) = search needs in let upper : SFits w32 (c .before .before .before .before .before .lower .given .0 .1 .0) = search needs in subst Made (sym (c .before .before .before .grow .ensures .1)) (Made.grow (l .inv .0) _ (record { lower = toZ-fits w32 _ (ofZ-fits w32 _ lower); upper = toZ-fits w32 _ (ofZ-fits w32 _ upper) })), omega (arith, l .inv .1))
+    (let told = c .before .before .before .before .known-told3 .given in let lower : SFits w32 (c .before .before .before .before .before .lower .given .0 .0) = search needs in let upper : SFits w32 (c .before .before .before .before .before .lower .given .0 .1 .0) = search needs in subst Made (sym (c .before .before .before .grow .ensures .1)) (Made.grow (l .inv .0) _ (record { lower = toZ-fits w32 _ (ofZ-fits w32 _ lower); upper = toZ-fits w32 _ (ofZ-fits w32 _ upper) })), omega (arith, l .inv .1))
 
 enum-known-count : tie.Need-enum-known-count Inv-loop μ-loop
 enum-known-count c = search needs
@@ -154,11 +169,11 @@ create-new-integer-variable-sparse-requires c κs = search needs
 put-grown-requires-2 : tie.Need-put-grown-requires-2 Inv-loop μ-loop
 put-grown-requires-2 c κs = search needs
 
-loop-less-6 : tie.Need-loop-less-6 Inv-loop μ-loop
-loop-less-6 c = omega (arith, c .before .before .before .before .before .before .before .before .before .before .before .before .before .before .before .before .before .before .before .before .before .loop-test .taken)
+loop-less-7 : tie.Need-loop-less-7 Inv-loop μ-loop
+loop-less-7 c = omega (arith, c .before .before .before .before .before .before .before .before .before .before .before .before .before .before .before .before .before .before .before .before .before .loop-test .taken)
 
-loop-again-6 : tie.Need-loop-again-6 Inv-loop μ-loop
-loop-again-6 c =
+loop-again-7 : tie.Need-loop-again-7 Inv-loop μ-loop
+loop-again-7 c =
     let l = c .before .before .before .before .before .before .before .before .before .before .before .before .before .before .before .before .before .before .before .before .before .before .loop in
     (let kept = c .before .before .before .before .before .before .kept-values in let each = each-fits (kept .result) (kept .ok .0) (kept .ok .1 .1) in subst Made (sym (c .before .before .before .create-new-integer-variable-sparse .ensures .1)) (Made.list (l .inv .0) _ (first-fit (kept .result) each (c .before .before .before .before .before .shorter .result))), omega (arith, l .inv .1))
 
@@ -171,13 +186,13 @@ post-predicate-requires c κs = search needs
 put-posted-requires : tie.Need-put-posted-requires Inv-loop μ-loop
 put-posted-requires c κs = search needs
 
-loop-less-7 : tie.Need-loop-less-7 Inv-loop μ-loop
-loop-less-7 c = omega (arith, c .before .before .before .before .before .before .before .before .before .before .before .before .before .before .before .before .before .loop-test .taken)
+loop-less-8 : tie.Need-loop-less-8 Inv-loop μ-loop
+loop-less-8 c = omega (arith, c .before .before .before .before .before .before .before .before .before .before .before .before .before .before .before .before .before .loop-test .taken)
 
-loop-again-7 : tie.Need-loop-again-7 Inv-loop μ-loop
-loop-again-7 c =
+loop-again-8 : tie.Need-loop-again-8 Inv-loop μ-loop
+loop-again-8 c =
     let l = c .before .before .before .before .before .before .before .before .before .before .before .before .before .before .before .before .before .before .loop in
-    (let told = c .before .before .before .before .known-told4 .given in let value : SFits w32 (c .before .before .before .before .before .predicate .given .0 .0 .value) = search needs in subst Made (sym (c .before .before .before .post-predicate .ensures .1)) (Made.post (l .inv .0) _ _ value), omega (arith, l .inv .1))
+    (let told = c .before .before .before .before .known-told5 .given in let value : SFits w32 (c .before .before .before .before .before .predicate .given .0 .0 .value) = search needs in subst Made (sym (c .before .before .before .post-predicate .ensures .1)) (Made.post (l .inv .0) _ _ value), omega (arith, l .inv .1))
 
 enum-told-4 : tie.Need-enum-told-4 Inv-loop μ-loop
 enum-told-4 c = search needs
@@ -188,11 +203,11 @@ new-checkpoint-requires c κs = search needs
 put-opened-requires : tie.Need-put-opened-requires Inv-loop μ-loop
 put-opened-requires c κs = search needs
 
-loop-less-8 : tie.Need-loop-less-8 Inv-loop μ-loop
-loop-less-8 c = omega (arith, c .before .before .before .before .before .before .before .before .before .before .before .before .before .before .before .before .loop-test .taken)
+loop-less-9 : tie.Need-loop-less-9 Inv-loop μ-loop
+loop-less-9 c = omega (arith, c .before .before .before .before .before .before .before .before .before .before .before .before .before .before .before .before .loop-test .taken)
 
-loop-again-8 : tie.Need-loop-again-8 Inv-loop μ-loop
-loop-again-8 c =
+loop-again-9 : tie.Need-loop-again-9 Inv-loop μ-loop
+loop-again-9 c =
     let l = c .before .before .before .before .before .before .before .before .before .before .before .before .before .before .before .before .before .loop in
     (subst Made (sym (c .before .before .before .new-checkpoint .ensures .1)) (Made.openNext (l .inv .0)), omega (arith, l .inv .1))
 
@@ -226,11 +241,11 @@ synchronise-requires c κs = search needs
 put-synchronised-requires : tie.Need-put-synchronised-requires Inv-loop μ-loop
 put-synchronised-requires c κs = search needs
 
-loop-less-9 : tie.Need-loop-less-9 Inv-loop μ-loop
-loop-less-9 c = omega (arith, c .before .before .before .before .before .before .before .before .before .before .before .before .before .before .before .before .before .before .before .before .before .before .before .before .before .before .loop-test .taken)
+loop-less-10 : tie.Need-loop-less-10 Inv-loop μ-loop
+loop-less-10 c = omega (arith, c .before .before .before .before .before .before .before .before .before .before .before .before .before .before .before .before .before .before .before .before .before .before .before .before .before .before .loop-test .taken)
 
-loop-again-9 : tie.Need-loop-again-9 Inv-loop μ-loop
-loop-again-9 c =
+loop-again-10 : tie.Need-loop-again-10 Inv-loop μ-loop
+loop-again-10 c =
     let l = c .before .before .before .before .before .before .before .before .before .before .before .before .before .before .before .before .before .before .before .before .before .before .before .before .before .before .before .loop in
     (subst Made (sym (c .before .before .before .before .before .before .before .synchronise .ensures .store)) (Made.synchronise (l .inv .0) _ _), omega (arith, l .inv .1))
 
@@ -273,11 +288,16 @@ answer-lines-spec =
     put-look-requires
     loop-less-4
     loop-again-4
+    enum-known-question
+    answer-of-requires
+    put-answer-requires
+    loop-less-5
+    loop-again-5
     enum-known-lower
     grow-requires
     put-grown-requires
-    loop-less-5
-    loop-again-5
+    loop-less-6
+    loop-again-6
     enum-known-count
     kept-values-requires
     shorter-requires
@@ -285,18 +305,18 @@ answer-lines-spec =
     slice-aggregate-create-new-integer-variable-sparse
     create-new-integer-variable-sparse-requires
     put-grown-requires-2
-    loop-less-6
-    loop-again-6
+    loop-less-7
+    loop-again-7
     enum-known-predicate
     post-predicate-requires
     put-posted-requires
-    loop-less-7
-    loop-again-7
+    loop-less-8
+    loop-again-8
     enum-told-4
     new-checkpoint-requires
     put-opened-requires
-    loop-less-8
-    loop-again-8
+    loop-less-9
+    loop-again-9
     enum-known-checkpoint
     shorter-requires-2
     shorter-requires-3
@@ -307,6 +327,6 @@ answer-lines-spec =
     slice-aggregate-synchronise-2
     synchronise-requires
     put-synchronised-requires
-    loop-less-9
-    loop-again-9
+    loop-less-10
+    loop-again-10
     returns-3)
