@@ -3,7 +3,7 @@
 
 use crate::commands::{Command, Mode};
 use crate::counting::{Counts, REFUSALS, grouped};
-use crate::kinds::EXHAUSTIVE;
+use crate::kinds::{EXHAUSTIVE, exhaustive_count};
 use crate::vocabulary::Vocabulary;
 use std::fmt::Write;
 
@@ -49,7 +49,7 @@ fn lengths(counts: &Counts) -> Vec<Wanted> {
     vec![
         wanted("sessions", counts.sessions() - sessions, SESSIONS),
         wanted("lines", counts.lines() - lines, LINES),
-        wanted("exhaustive sessions", sessions, 1),
+        wanted("exhaustive sessions", sessions, exhaustive_count()),
         wanted("answers of ok", counts.all.ok, counts.lines().div_ceil(2)),
     ]
 }
@@ -142,6 +142,17 @@ mod tests {
                 .iter()
                 .all(|text| !text.contains("refusals 10"))
         );
+        for short in [
+            "0 lines, 2,000,000 wanted",
+            "0 sessions, 5,000 wanted",
+            "0 exhaustive sessions, 124 wanted",
+        ] {
+            assert!(in_trailscript.iter().any(|text| text == short), "{short}");
+        }
+        for number in [1, 2, 3, 4, 5, 7, 8, 9, 14] {
+            let short = format!("0 refusals {number}, 1,000 wanted");
+            assert!(in_trailscript.contains(&short), "{short}");
+        }
         assert!(
             in_callscript
                 .iter()

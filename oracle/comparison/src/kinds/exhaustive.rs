@@ -56,6 +56,14 @@ fn predicates(domain: Domain) -> Vec<Predicate> {
         .collect()
 }
 
+/// How many sessions hold every sequence: one for each first post.
+pub fn count() -> usize {
+    DOMAINS
+        .into_iter()
+        .map(|domain| predicates(domain).len())
+        .sum()
+}
+
 pub fn sessions(vocabulary: &Vocabulary) -> impl Iterator<Item = Session> {
     DOMAINS.into_iter().flat_map(move |domain| {
         predicates(domain)
@@ -119,7 +127,9 @@ mod tests {
     #[test]
     fn every_sequence_of_three_posts_is_there_once() {
         let mut sequences = std::collections::BTreeSet::new();
+        let mut found = 0;
         for session in sessions(&Vocabulary::whole(Mode::Trailscript)) {
+            found += 1;
             let text = String::from_utf8(session.bytes).unwrap();
             let head = text.split("open\n").next().unwrap().to_string();
             for sequence in text.split("open\n").skip(1) {
@@ -131,5 +141,6 @@ mod tests {
             }
         }
         assert_eq!(sequences.len(), 3 * 28usize.pow(3) + 2 * 20usize.pow(3));
+        assert_eq!((found, count()), (3 * 28 + 2 * 20, 3 * 28 + 2 * 20));
     }
 }

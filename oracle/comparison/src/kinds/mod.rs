@@ -150,6 +150,10 @@ pub fn numbered(
     scribe.finish(kind.name)
 }
 
+pub fn exhaustive_count() -> usize {
+    exhaustive::count()
+}
+
 pub fn exhaustive_sessions(vocabulary: &Vocabulary) -> impl Iterator<Item = Session> {
     exhaustive::sessions(vocabulary)
 }
