@@ -1,3 +1,5 @@
+pub mod Kept
 pub mod Lines
 pub mod Parts
+pub mod Promises
 pub mod Runs
