@@ -7,7 +7,6 @@ use lib.Dec.{leb}
 use lib.ListN.{getD}
 use native.Mathlib.Omega.{arith}
 use borrow.Author.Tests.{leb-false}
-use Rattle.domains.specs.Choice.{pick}
 use Rattle.stores.specs.declared.Variable.{Variable}
 use Rattle.stores.specs.Store.{noVariable}
 use Rattle.replies.specs.declared.answers.Reply.{Reply}

@@ -1,5 +1,5 @@
 -- The promises of Promises.antt: a run goes along its lines, a bad line has one case in each definition, and no trail has more than 1,024 entries.
-use Prim.Native.Nat.{ℕ, suc, _+_, _<_}
+use Prim.Native.Nat.{ℕ, suc, _+_}
 use mathlib.Core.Bool.{Bool, true, false}
 use mathlib.Core.Path.{_≡_, refl, sym, ap, _∙_}
 use mathlib.Core.List.{List, [], _∷_, _++_, append-assoc}
@@ -15,7 +15,6 @@ use Rattle.stores.specs.declared.SynchroniseAnswer.the-variants.{Unfixed, Refus
 use Rattle.stores.specs.Calls.{entriesAbove, unfixed, synchroniseAnswer}
 use Rattle.stores.specs.Straight.{tidy}
 use Rattle.stores.specs.History.{straight}
-use Rattle.commands.specs.declared.command.Command.{Command}
 use Rattle.commands.specs.Values.{valuesOf}
 use Rattle.driver.specs.Lines.{commandStore, commandReply, commandPairs, commandText, lineStore, lineText}
 use Rattle.driver.specs.Runs.{runStore, runText}

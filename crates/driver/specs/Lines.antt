@@ -1,8 +1,7 @@
 -- What the driver does with a line: the store after it, and the text that is printed (RULES.md, D6, D7, D9 and D10). Assumes nothing.
 use Prim.Native.Nat.{ℕ}
-use mathlib.Core.List.{List, [], _∷_}
+use mathlib.Core.List.{List, []}
 use lib.IntN.{ℤ}
-use lib.Dec.{leb}
 use Rattle.predicates.specs.declared.Predicate.{Predicate}
 use Rattle.predicates.specs.declared.PredicateType.{PredicateType}
 use Rattle.predicates.specs.Counts.{counted}

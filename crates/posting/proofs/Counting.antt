@@ -1,7 +1,7 @@
 -- What an entry adds to the count, by one sum and one test: the distances are both 0 exactly where neither bound moved. Assumes nothing.
 use Prim.Native.Nat.{ℕ, _+_}
 use mathlib.Core.Bool.{Bool, true, false, _&&_}
-use mathlib.Core.Path.{_≡_, refl, sym, ap, _∙_}
+use mathlib.Core.Path.{_≡_, refl}
 use lib.IntN.{ℤ, negℤ, _-ℤ_}
 use native.Mathlib.Omega.{arith}
 use Rattle.integers.specs.Order.{eqZ, integers, abs=, add=, neg=}

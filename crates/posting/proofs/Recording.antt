@@ -1,12 +1,11 @@
 -- The recording of an entry, stage by stage as the code does it: the entry, then the lower update, the upper update and the hole where
 -- there is one. The last stage is `recorded`, since a push with room is one place written and counted. Assumes nothing.
-use Prim.Native.Nat.{ℕ, suc, _+_, _≤_, _<_}
+use Prim.Native.Nat.{ℕ, _+_, _<_}
 use mathlib.Core.Bool.{Bool, true, false, not}
-use mathlib.Core.Path.{_≡_, refl, sym, ap, _∙_}
+use mathlib.Core.Path.{_≡_, refl, ap}
 use lib.IntN.{ℤ}
 use lib.ListN.{set}
 use native.Mathlib.Numerals.{add-one}
-use native.Mathlib.Omega.{arith}
 use borrow.Author.Tests.{lt-ltb}
 use mir.Syntax.{w32}
 use mir.Val.{SFits, ofZ}
@@ -16,7 +15,7 @@ use Rattle.predicates.specs.declared.Reason.{Reason}
 use Rattle.domains.specs.declared.Bounds.{Bounds}
 use Rattle.domains.specs.Choice.{pick}
 use Rattle.domains.specs.Domain.{isNotEqual, prunedBy}
-use Rattle.domains.specs.Tests.{by-cases, clash}
+use Rattle.domains.specs.Tests.{by-cases}
 use Rattle.pools.specs.declared.Update.{Update}
 use Rattle.pools.specs.declared.Pool.{Pool}
 use Rattle.pools.specs.Chain.{pushed}

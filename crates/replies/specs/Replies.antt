@@ -1,5 +1,4 @@
 -- What a line is answered, from what its call answered (RULES.md, D6 and D9). Assumes nothing.
-use Rattle.predicates.specs.declared.DomainId.{DomainId}
 use Rattle.stores.specs.declared.Refusal.{Refusal}
 use Rattle.stores.specs.declared.GrowAnswer.{GrowAnswer}
 use Rattle.stores.specs.declared.GrowAnswer.the-variants as Grow

@@ -1,5 +1,5 @@
 -- `answer_lines` answers line after line: at every turn what is still to come, after what was done, is the whole run.
-use Prim.Native.Nat.{ℕ, _+_, _-_, _<_, _≤_, min}
+use Prim.Native.Nat.{ℕ, _-_, _<_, _≤_, min}
 use mathlib.Core.Path.{_≡_, refl, sym, ap, subst, _∙_}
 use mathlib.Core.List.{List}
 use mathlib.Core.Logic.{⊎-elim}
@@ -14,7 +14,6 @@ use denote.Ref.{now}
 use Rattle.predicates.specs.declared.Predicate.{Predicate}
 use Rattle.predicates.specs.Counts.{counted}
 use Rattle.domains.specs.Choice.{pick}
-use Rattle.stores.specs.declared.Assignments.{Assignments}
 use Rattle.stores.specs.declared.Refusal.the-variants.{NoVariable}
 use Rattle.stores.specs.Store.{noVariable, variableOf, domainOf}
 use Rattle.stores.specs.Positions.{domainAt}
@@ -435,7 +434,7 @@ loop-again c =
     let did = did-here met in
     let wrote = c .before .before .put-reply .ensures in
     let text = did .0 .text (at .loop .number) in
-    let enough : 34000 ≤ length (now (at .before .before .before .args .out)) - at .loop .written = omega (arith, told .before .before .before .before .loop-test .taken, put-length (at .loop .inv .0 .put)) in (
+    let enough : 34000 ≤ length (now (at .before .before .before .args .out)) - at .loop .written = subst (λ (n : ℕ). 34000 ≤ n - at .loop .written) (put-length (at .loop .inv .0 .put)) (told .before .before .before .before .loop-test .taken) in (
       going-more (at .loop .inv .0) (told .before .before .before .line-end .ensures) (ahead (told .before .before)) enough (met .match .store) (did .0 .stored) (subst Made (sym (did .0 .stored)) (did .0 .made)) (rw text at (wrote .0)) (omega (arith, wrote .1, ap length text, did .1)),
       did .1,
       did .2,

@@ -1,5 +1,5 @@
 -- `show` refuses or tells the bounds, as `about`.
-use mathlib.Core.Path.{_≡_, refl}
+use mathlib.Core.Path.{refl}
 use mir.Syntax.{w32}
 use mir.Val.{SFits}
 use mir.Facts.{toZ-ofZ}

@@ -1,6 +1,5 @@
 -- `put_answer` writes the word and past it the fields, by cases on the reply as `answerText`.
 use native.Mathlib.Omega.{arith}
-use lib.ListN.{length-append}
 use mir.Syntax.{w32}
 use mir.Val.{SFits}
 use mir.Facts.{toZ-ofZ}
