@@ -1,7 +1,7 @@
 -- Two's complement keeps differences: both numbers' bits are off by 2^32 or by nothing, and a subtraction with wrap-around takes that away.
 use Prim.Native.Nat.{ℕ, _+_, _-_, _≤_, _<_, _%_, _^_}
-use mathlib.Core.Path.{_≡_, sym, _∙_, ap}
-use lib.IntN.{ℤ, pos, negℤ, natAbs, _+ℤ_, _-ℤ_}
+use mathlib.Core.Path.{_≡_}
+use lib.IntN.{ℤ, pos, negℤ, _+ℤ_, _-ℤ_}
 use mir.Syntax.{w32, w64}
 use mir.Val.{SFits}
 use native.Mathlib.Omega.{arith}

@@ -1,12 +1,7 @@
 -- The distance of two integers, as whole numbers have it. Assumes nothing.
-use Prim.Native.Nat.{ℕ, suc, _+_, _-_, _≤_, _<_, _%_}
-use mathlib.Core.Path.{_≡_}
-use lib.IntN.{ℤ, pos, negℤ, natAbs, _+ℤ_, _-ℤ_}
-use lib.Signed.{_≤ℤ_}
-use mir.Syntax.{w32, w64}
-use mir.Val.{SFits}
-use native.Mathlib.Omega.{arith}
-use Rattle.integers.specs.Order.{plus, minus, integers, add=, neg=, abs=, fits→}
+use Prim.Native.Nat.{ℕ, _+_, _-_, _%_}
+use lib.IntN.{ℤ, natAbs, _-ℤ_}
+use Rattle.integers.specs.Order.{plus, minus}
 
 -- how far a and b lie apart
 unfoldable pub distance : ℤ → ℤ → ℕ

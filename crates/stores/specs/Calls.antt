@@ -1,13 +1,12 @@
 -- What each call answers and leaves behind (RULES.md, "Refusal numbers", "Creating", "Posts", "Synchronise"): the refusals in their
 -- order, and then what the call does. Assumes nothing.
-use Prim.Native.Nat.{ℕ, zero, suc, _+_, _-_, min}
-use mathlib.Core.Bool.{Bool, true, false, not, _&&_}
+use Prim.Native.Nat.{ℕ, zero, suc, _+_, _-_}
+use mathlib.Core.Bool.{Bool, true, false, _&&_}
 use mathlib.Core.List.{List, [], _∷_, _++_, map}
 use lib.IntN.{ℤ, pos, sucℤ}
 use lib.ListN.{length, getD, drop}
 use lib.Dec.{ltb, leb, eqb}
-use lib.Signed.{leZ, ltZ}
-use Rattle.integers.specs.Order.{eqZ}
+use lib.Signed.{ltZ}
 use Rattle.predicates.specs.declared.Predicate.{Predicate}
 use Rattle.predicates.specs.declared.PredicateType.the-variants.{LowerBound, NotEqual, UpperBound}
 use Rattle.predicates.specs.declared.Reason.{Reason}
@@ -28,8 +27,7 @@ use Rattle.stores.specs.declared.SynchroniseAnswer.the-variants as Synch
 use Rattle.stores.specs.declared.EntryAnswer.{EntryAnswer}
 use Rattle.stores.specs.declared.EntryAnswer.the-variants as Ask
 use Rattle.stores.specs.declared.Assignments.{Assignments}
-use Rattle.stores.specs.declared.Entry.{Entry}
-use Rattle.stores.specs.Store.{bare, variableOf, domainOf, entryOf, newest, changedBy, differs, recorded, undone, undoneAll, allocated, marked, opened, withCheckpoints, cut}
+use Rattle.stores.specs.Store.{bare, domainOf, entryOf, newest, changedBy, differs, recorded, undone, undoneAll, allocated, marked, opened, withCheckpoints, cut}
 
 -- ---- creating
 

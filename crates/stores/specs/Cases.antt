@@ -1,13 +1,13 @@
 -- The cases of each call: what refuses it, what it does otherwise, and that it does nothing else. Each follows the call's definition test
 -- by test. The proofs of the code cite the cases one by one; a property of stores is carried over a call by `..-cases`.
 use Prim.Native.Nat.{ℕ, suc, _+_, _≤_, _<_}
-use mathlib.Core.Bool.{Bool, true, false, not, _&&_}
+use mathlib.Core.Bool.{Bool, true, false, _&&_}
 use mathlib.Core.Path.{_≡_, refl, sym, subst}
-use mathlib.Core.List.{List, [], _∷_}
+use mathlib.Core.List.{List}
 use lib.IntN.{ℤ}
 use lib.ListN.{length}
 use lib.Dec.{ltb, leb}
-use lib.Signed.{ltZ, _≤ℤ_, _<ℤ_}
+use lib.Signed.{ltZ, _≤ℤ_}
 use borrow.Author.Tests.{ltb-true, ltb-false, leb-true, leb-false, lt-ltb, le-ltb, le-leb, lt-leb}
 use native.Mathlib.Omega.{arith}
 use Rattle.integers.specs.Order.{integers}

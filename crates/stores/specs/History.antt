@@ -1,6 +1,6 @@
 -- What public calls can make: every such store is straight, and a synchronise gives back the store as it was when the checkpoint above was
 -- opened, because each call since then is forgotten by it.
-use Prim.Native.Nat.{ℕ, zero, suc, _+_, _≤_, _<_}
+use Prim.Native.Nat.{ℕ, _+_, _≤_, _<_}
 use mathlib.Core.Bool.{Bool, true, false}
 use mathlib.Core.Path.{_≡_, refl, sym, _∙_, subst}
 use mathlib.Core.List.{List, [], _∷_}
@@ -17,10 +17,10 @@ use Rattle.predicates.specs.declared.Reason.{Reason}
 use Rattle.domains.specs.declared.Bounds.{Bounds}
 use Rattle.domains.specs.Tests.{clash}
 use Rattle.stores.specs.declared.Assignments.{Assignments}
-use Rattle.stores.specs.Made.{AreI32, Made, Since}
+use Rattle.stores.specs.Made.{Made, Since}
 use Rattle.stores.specs.Store.{bare, recorded, opened}
 use Rattle.stores.specs.Calls.{fresh, isEmpty, missing, listed, posted, entriesAbove, synchronised, synchroniseStore}
-use Rattle.stores.specs.Straight.{Records, Straight, Tidy, tidy}
+use Rattle.stores.specs.Straight.{Records, Straight, tidy}
 use Rattle.stores.specs.Undo.{back-recorded, back-opened, back-where-opened}
 use Rattle.stores.specs.Steps.{post-records, post-straight, grown-straight, back-straight}
 use Rattle.stores.specs.Lists.{listed-straight}

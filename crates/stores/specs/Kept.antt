@@ -9,7 +9,7 @@ use lib.IntN.{ℤ}
 use lib.ListN.{length, getD}
 use lib.Seq.{getD-set-same}
 use lib.Dec.{leb, ltb}
-use lib.Signed.{leZ, ltZ, _≤ℤ_}
+use lib.Signed.{leZ, ltZ}
 use borrow.Author.Tests.{ltb-true, ltb-false, leb-true, leb-false, ne-eqb}
 use native.Mathlib.Omega.{arith}
 use mir.Syntax.{w32}
@@ -22,7 +22,7 @@ use Rattle.predicates.specs.declared.Reason.{Reason}
 use Rattle.predicates.specs.declared.Reason.the-variants.{None}
 use Rattle.domains.specs.declared.Bounds.{Bounds}
 use Rattle.domains.specs.Choice.{pick}
-use Rattle.domains.specs.Domain.{Domain, satisfies, member, emptied, overflows, acts, after, moved, isNotEqual}
+use Rattle.domains.specs.Domain.{Domain, satisfies, member, emptied, overflows, acts, after, moved}
 use Rattle.domains.specs.Tests.{by-cases, clash, both}
 use Rattle.domains.specs.Membership.{left}
 use Rattle.domains.specs.Promises.{Tight}
@@ -37,13 +37,12 @@ use Rattle.stores.specs.declared.OpenAnswer.the-variants as Open
 use Rattle.stores.specs.declared.SynchroniseAnswer.the-variants as Synchronise
 use Rattle.stores.specs.declared.Assignments.{Assignments}
 use Rattle.stores.specs.Refusals.{numberOf, Ground, decided, First}
-use Rattle.stores.specs.Words.{toldOf, reasonOf}
+use Rattle.stores.specs.Words.{toldOf}
 use Rattle.stores.specs.Words.Told.{ok, refused}
 use Rattle.stores.specs.Store.{noEntry, bare, variableOf, domainOf, entryOf, recorded, allocated, marked, opened}
 use Rattle.stores.specs.Calls.{growGrounds, growAnswer, growStore, grown, fresh, newVariable, spanOf, missing, isEmpty, listAnswer, listStore, listed, domainBefore, does, postGrounds, postAnswer, keeps, postStore, posted, openGrounds, openAnswer, openStore, entriesAbove, unfixed, synchroniseGrounds, synchroniseAnswer, synchroniseStore, synchronised, pairsOf}
 use Rattle.stores.specs.Made.{Made, Since}
 use Rattle.stores.specs.Replay.{on, remains, replayed}
-use Rattle.stores.specs.Positions.{domainAt}
 use Rattle.stores.specs.Promises.{RefusalLaw, UntouchedLaw, RoomLaw, SameLaw, SetLaw, BoundsLaw, Lost, SomeLeft, AnswerLaw, ReplayLaw, PositionLaw, CountLaw, BackLaw, OpenedLaw}
 use Rattle.stores.specs.Straight.{tidy}
 use Rattle.stores.specs.Meaning.{meant, recorded-own, recorded-other}

@@ -1,12 +1,12 @@
 -- Creating from a list is steps: the smallest and the largest are listed, so what is missing lies strictly between them, and removing it
 -- in rising order moves no bound.
 use Prim.Native.Nat.{ℕ, zero, suc, _+_, _-_, _≤_, _<_}
-use mathlib.Core.Bool.{Bool, true, false, not, _&&_, _||_}
-use mathlib.Core.Path.{_≡_, refl, sym, ap, _∙_, subst}
+use mathlib.Core.Bool.{Bool, true, false, _||_}
+use mathlib.Core.Path.{_≡_, refl, ap, _∙_, subst}
 use mathlib.Core.List.{List, [], _∷_}
 use lib.IntN.{ℤ, pos, sucℤ}
 use lib.ListN.{length, getD}
-use lib.Signed.{ltZ, _≤ℤ_, _<ℤ_}
+use lib.Signed.{ltZ, _≤ℤ_}
 use native.Mathlib.Omega.{arith}
 use mir.Syntax.{w32}
 use mir.Val.{SFits}
@@ -15,15 +15,14 @@ use Rattle.predicates.specs.declared.PredicateType.the-variants.{NotEqual}
 use Rattle.predicates.specs.declared.Reason.the-variants.{None}
 use Rattle.domains.specs.declared.Bounds.{Bounds}
 use Rattle.domains.specs.Choice.{pick}
-use Rattle.domains.specs.Domain.{Domain, has, member, width, acts, overflows, moved, after, lowerAfter, upperAfter}
+use Rattle.domains.specs.Domain.{Domain, has, member, width, overflows}
 use Rattle.domains.specs.Membership.{Left, left, is-left}
 use Rattle.domains.specs.Tests.{clash}
-use Rattle.domains.specs.Laws.{after-moved, set-law}
 use Rattle.stores.specs.declared.Assignments.{Assignments}
 use Rattle.stores.specs.Made.{AreI32}
-use Rattle.stores.specs.Store.{domainOf, recorded, allocated, marked}
-use Rattle.stores.specs.Calls.{notEqual, smallest, largest, spanOf, unlisted, missing, grown, boundsAfter, posted, removedAll, listed}
-use Rattle.stores.specs.Straight.{domainWith, Straight, tidy}
+use Rattle.stores.specs.Store.{domainOf, recorded, allocated}
+use Rattle.stores.specs.Calls.{notEqual, smallest, largest, spanOf, unlisted, missing, grown, posted, removedAll, listed}
+use Rattle.stores.specs.Straight.{Straight, tidy}
 use Rattle.stores.specs.Meaning.{meant, recorded-own}
 use Rattle.stores.specs.Steps.{fits-of, post-records, post-straight, grown-straight, grown-domain}
 

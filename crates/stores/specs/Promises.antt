@@ -1,12 +1,12 @@
 -- What is promised of the store: statements alone, in the order of the demands. The proofs are in Kept.antt. Believe the definitions that
 -- these cite (Refusals, Words, Store, Calls, Made, Replay, Positions, and Domain of domains) and nothing else. Assumes nothing.
 use Prim.Native.Nat.{ℕ, suc, _+_, _≤_, _<_, min}
-use mathlib.Core.Bool.{Bool, true, false, _&&_}
+use mathlib.Core.Bool.{true, false, _&&_}
 use mathlib.Core.Path.{_≡_}
 use mathlib.Core.Logic.{_≢_, _↔_}
 use mathlib.Core.List.{List, []}
-use lib.IntN.{ℤ, pos}
-use lib.ListN.{getD, length}
+use lib.IntN.{ℤ}
+use lib.ListN.{length}
 use lib.Signed.{ltZ}
 use mir.Syntax.{w32}
 use mir.Val.{SFits}

@@ -1,8 +1,8 @@
 -- What the trail means: the entries on a variable, applied in order to its starting interval. Read are the trail's predicates and that
 -- interval, and nothing else: no pool, no bound, no hole. Assumes nothing.
 use Prim.Native.Nat.{ℕ, zero, suc, _+_}
-use mathlib.Core.Bool.{Bool, true, false, _&&_}
-use mathlib.Core.List.{List, [], _∷_}
+use mathlib.Core.Bool.{Bool, true, _&&_}
+use mathlib.Core.List.{List, []}
 use lib.IntN.{ℤ}
 use lib.ListN.{getD}
 use lib.Dec.{eqb}

@@ -1,42 +1,41 @@
 -- Every store that public calls made is straight: a call that does something is steps, a refused one is none, and a synchronise leads
 -- back to a store on the way. So what holds of straight stores holds of all, and nothing need be shown of a synchronise again.
 use Prim.Native.Nat.{ℕ, zero, suc, _+_, _-_, _≤_, _<_}
-use mathlib.Core.Bool.{Bool, true, false, not, _&&_}
+use mathlib.Core.Bool.{Bool, true, false}
 use mathlib.Core.Path.{_≡_, refl, sym, ap, _∙_, subst}
-use mathlib.Core.List.{List, [], _∷_}
-use lib.IntN.{ℤ, pos, sucℤ}
+use mathlib.Core.List.{List, []}
+use lib.IntN.{ℤ}
 use lib.ListN.{length, getD}
 use lib.Seq.{getD-set-same}
-use lib.Dec.{ltb, leb, eqb}
-use lib.Signed.{leZ, ltZ, _≤ℤ_, _<ℤ_}
-use borrow.Author.Tests.{ltb-true, ltb-false, leb-true, leb-false, not-true, not-false}
+use lib.Dec.{ltb}
+use lib.Signed.{ltZ, _≤ℤ_}
+use borrow.Author.Tests.{ltb-true, ltb-false, not-false}
 use native.Mathlib.Omega.{arith}
 use mir.Syntax.{w32}
 use mir.Val.{SFits}
-use Rattle.integers.specs.Order.{eqZ, integers, suc=, fits→}
+use Rattle.integers.specs.Order.{eqZ, integers}
 use Rattle.predicates.specs.declared.Predicate.{Predicate}
-use Rattle.predicates.specs.declared.PredicateType.{PredicateType}
 use Rattle.predicates.specs.declared.Reason.{Reason}
 use Rattle.predicates.specs.declared.Reason.the-variants.{None}
 use Rattle.domains.specs.declared.Bounds.{Bounds}
 use Rattle.domains.specs.Choice.{pick}
-use Rattle.domains.specs.Domain.{Domain, isNotEqual, has, member, width, acts, overflows, moved, after, lowerAfter, upperAfter}
+use Rattle.domains.specs.Domain.{Domain, isNotEqual, acts, overflows, moved, after}
 use Rattle.domains.specs.Promises.{Tight, Fits}
 use Rattle.domains.specs.Membership.{is-left}
-use Rattle.domains.specs.Laws.{after-idle, after-moved, set-law, tight-law}
+use Rattle.domains.specs.Laws.{after-idle, after-moved, tight-law}
 use Rattle.domains.specs.Fits.{fits-law}
 use Rattle.pools.specs.Chain.{chainOf, valuesOf}
 use Rattle.pools.specs.ChainLaws.{no-link}
 use Rattle.stores.specs.declared.Entry.{Entry}
 use Rattle.stores.specs.declared.Variable.{Variable}
 use Rattle.stores.specs.declared.Assignments.{Assignments}
-use Rattle.stores.specs.Made.{AreI32, Made}
+use Rattle.stores.specs.Made.{AreI32}
 use Rattle.stores.specs.Store.{noEntry, noVariable, bare, variableOf, domainOf, differs, recorded, allocated, marked, opened}
-use Rattle.stores.specs.Calls.{atLeast, atMost, notEqual, grown, domainBefore, boundsAfter, posted, synchronised}
+use Rattle.stores.specs.Calls.{atLeast, atMost, grown, domainBefore, boundsAfter, posted, synchronised}
 use Rattle.stores.specs.Replay.{on, replayed}
-use Rattle.stores.specs.Straight.{domainWith, Records, Straight, Tidy, tidy}
+use Rattle.stores.specs.Straight.{domainWith, Records, Straight, tidy}
 use Rattle.stores.specs.Undo.{back-recorded, back-opened, back-where-opened}
-use Rattle.stores.specs.Meaning.{Meant, meant, recorded-own}
+use Rattle.stores.specs.Meaning.{meant, recorded-own}
 
 -- ---- the domains of a straight store
 

@@ -1,13 +1,13 @@
 -- How the store keeps what happened: an entry recorded, an entry undone, a variable laid down, a checkpoint opened. No rule of the
 -- store is said here, only where things stand; undoing blanks what it frees, so that it gives back the very store. Assumes nothing.
 use Prim.Native.Nat.{ℕ, zero, suc, _+_, _-_}
-use mathlib.Core.Bool.{Bool, true, false, not}
-use mathlib.Core.List.{List, [], _∷_}
+use mathlib.Core.Bool.{Bool, not}
+use mathlib.Core.List.{List}
 use lib.IntN.{ℤ, pos}
 use lib.ListN.{getD, set, replicate}
 use Rattle.integers.specs.Order.{eqZ}
 use Rattle.predicates.specs.declared.Predicate.{Predicate}
-use Rattle.predicates.specs.declared.PredicateType.the-variants.{LowerBound, UpperBound}
+use Rattle.predicates.specs.declared.PredicateType.the-variants.{LowerBound}
 use Rattle.predicates.specs.declared.Reason.{Reason}
 use Rattle.predicates.specs.declared.Reason.the-variants.{None}
 use Rattle.domains.specs.declared.Bounds.{Bounds}

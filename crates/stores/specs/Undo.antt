@@ -4,7 +4,7 @@ use Prim.Native.Nat.{ℕ, zero, suc, _+_, _-_, _≤_, _<_}
 use mathlib.Core.Bool.{Bool, true, false}
 use mathlib.Core.Path.{_≡_, refl, sym, ap, _∙_}
 use mathlib.Core.Logic.{_≢_}
-use mathlib.Core.List.{List, [], _∷_}
+use mathlib.Core.List.{List}
 use lib.ListN.{length, getD, set}
 use lib.Seq.{set-set, set-getD, getD-set-same, getD-set-other}
 use native.Mathlib.Omega.{arith}
@@ -18,8 +18,8 @@ use Rattle.pools.specs.Chain.{noUpdate}
 use Rattle.stores.specs.declared.Entry.{Entry}
 use Rattle.stores.specs.declared.Variable.{Variable}
 use Rattle.stores.specs.declared.Assignments.{Assignments}
-use Rattle.stores.specs.Store.{noEntry, noVariable, variableOf, entryOf, pushIf, linkIf, popIf, backIf, differs, recorded, undoneBy, undone, undoneAll, newest, changedBy, opened, withCheckpoints, cut}
-use Rattle.stores.specs.Calls.{entriesAbove, synchronised}
+use Rattle.stores.specs.Store.{noEntry, noVariable, variableOf, pushIf, linkIf, popIf, backIf, differs, recorded, undoneBy, undone, undoneAll, newest, changedBy, opened, withCheckpoints, cut}
+use Rattle.stores.specs.Calls.{synchronised}
 use Rattle.stores.specs.Straight.{Records, Tidy, TidyPool}
 
 -- a place that was blank, written and made blank again

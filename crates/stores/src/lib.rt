@@ -9,7 +9,7 @@ use predicates::Predicate;
 use predicates::Reason;
 use predicates::TrailPosition;
 ghost use mathlib.Core.Path.{_≡_};
-ghost use Rattle.stores.specs.Store.{noEntry, noVariable, entryOf};
+ghost use Rattle.stores.specs.Store.{noEntry, noVariable};
 ghost use Rattle.stores.specs.Calls.{fresh, entryAnswer};
 ghost use Rattle.stores.specs.Made.{Made};
 

@@ -13,8 +13,6 @@ use Rattle.stores.specs.Store.{bare, allocated, recorded}
 use Rattle.stores.specs.Calls.{grown, fresh}
 use Rattle.stores.proofs.Assignments.default.Statement.{statement}
 use Rattle.stores.proofs.Assignments.default.Tie as tie
-use Rattle.stores.proofs.Assignments.default.Reads as reads
-use Rattle.stores.proofs.Assignments.default.Lts as lts
 use Rattle.pools.proofs.Pool.empty.Reads as empty-reads
 use Rattle.pools.proofs.Pool.push.Reads as push-reads
 use Rattle.predicates.proofs.Predicate.lower_bound_predicate.Reads as lower-bound-predicate-reads

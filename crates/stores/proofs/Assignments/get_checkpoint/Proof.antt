@@ -5,8 +5,6 @@ use Rattle.stores.specs.History.{straight}
 use borrow.Author.Needs.{needs}
 use Rattle.stores.proofs.Assignments.get_checkpoint.Statement.{statement}
 use Rattle.stores.proofs.Assignments.get_checkpoint.Tie as tie
-use Rattle.stores.proofs.Assignments.get_checkpoint.Reads as reads
-use Rattle.stores.proofs.Assignments.get_checkpoint.Lts as lts
 
 -- src/lib.rt:94:20
 cast-t2 : tie.Need-cast-t2

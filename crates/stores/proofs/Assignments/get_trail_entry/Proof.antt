@@ -7,8 +7,6 @@ use Rattle.stores.specs.History.{straight}
 use borrow.Author.Needs.{needs}
 use Rattle.stores.proofs.Assignments.get_trail_entry.Statement.{statement}
 use Rattle.stores.proofs.Assignments.get_trail_entry.Tie as tie
-use Rattle.stores.proofs.Assignments.get_trail_entry.Reads as reads
-use Rattle.stores.proofs.Assignments.get_trail_entry.Lts as lts
 
 -- src/lib.rt:114:18
 cast-at : tie.Need-cast-at

@@ -5,8 +5,6 @@ use Rattle.stores.specs.History.{straight}
 use borrow.Author.Needs.{needs}
 use Rattle.stores.proofs.Assignments.num_domains.Statement.{statement}
 use Rattle.stores.proofs.Assignments.num_domains.Tie as tie
-use Rattle.stores.proofs.Assignments.num_domains.Reads as reads
-use Rattle.stores.proofs.Assignments.num_domains.Lts as lts
 
 -- src/lib.rt:101:9
 cast-result : tie.Need-cast-result

@@ -2,8 +2,6 @@
 use borrow.Author.Needs.{needs}
 use Rattle.stores.proofs.Entry.blank.Statement.{statement}
 use Rattle.stores.proofs.Entry.blank.Tie as tie
-use Rattle.stores.proofs.Entry.blank.Reads as reads
-use Rattle.stores.proofs.Entry.blank.Lts as lts
 use Rattle.predicates.proofs.Predicate.lower_bound_predicate.Reads as lower-bound-predicate-reads
 
 -- src/lib.rt:53:28
