@@ -1,7 +1,7 @@
 // Opening a checkpoint, and going back to one. Relies on integers, predicates, domains, pools and stores.
+use domains::is_not_equal_predicate;
 use pools::Update;
 use predicates::Checkpoint;
-use predicates::PredicateType;
 use stores::Assignments;
 use stores::Entry;
 use stores::OpenAnswer;
@@ -14,13 +14,13 @@ ghost use mathlib.Core.Path.{_≡_};
 ghost use Prim.Native.Nat.{_-_, _≤_, _<_, min};
 ghost use lib.ListN.{length};
 ghost use Rattle.domains.specs.Choice.{pick};
-ghost use Rattle.domains.specs.Domain.{isNotEqual};
+ghost use Rattle.domains.specs.Domain.{prunedBy};
 ghost use Rattle.pools.specs.Chain.{noUpdate};
 ghost use Rattle.stores.specs.Store.{differs, cut as blanked};
 ghost use Rattle.stores.specs.Calls.{openAnswer, openStore};
 ghost use Rattle.stores.specs.Made.{Made};
 ghost use Rattle.backtracking.specs.Outcome.{Appended, Outcome};
-ghost use Rattle.backtracking.specs.Traces.{tracesOf, holeAlone, prunedWith, variableBefore};
+ghost use Rattle.backtracking.specs.Traces.{tracesOf, variableBefore};
 
 // One checkpoint more: the trail's length is kept, and the new checkpoint is the current one.
 pub fn new_checkpoint(mut store: Assignments) -> Opened
@@ -28,7 +28,7 @@ pub fn new_checkpoint(mut store: Assignments) -> Opened
     ensures { λ r. ⌜ (r .answer ≡ openAnswer store) × (r .store ≡ openStore store) ⌝ }
 {
     let current = store.checkpoint;
-    if 256 <= current {
+    if Assignments::MAX_CHECKPOINTS <= current {
         return Opened {
             answer: OpenAnswer::Refused(Refusal::TooManyCheckpoints),
             store,
@@ -82,17 +82,6 @@ fn differ(a: i32, b: i32) -> bool
     a != b
 }
 
-fn is_not_equal(kind: PredicateType) -> bool
-    ensures { λ r. ⌜ r ≡ isNotEqual kind ⌝ }
-{
-    match kind {
-        PredicateType::LowerBound => false,
-        PredicateType::NotEqual => true,
-        PredicateType::Equal => false,
-        PredicateType::UpperBound => false,
-    }
-}
-
 // What undoing an entry takes from the histories: an update of the lower bound, one of the upper bound, a hole.
 struct Traces {
     lower: bool,
@@ -111,36 +100,17 @@ fn traces_left(entry: Entry, was: Variable) -> Traces
     Traces {
         lower: differ(old.lower, now.lower),
         upper: differ(old.upper, now.upper),
-        hole: is_not_equal(kind),
+        hole: is_not_equal_predicate(kind),
     }
 }
 
-// 1 for an entry that removed a value and moved no bound.
-fn hole_alone(taken: Traces) -> u64
-    ensures { λ r. ⌜ (r ≡ holeAlone taken) × (r ≤ 1) ⌝ }
+// What an entry added to the count.
+fn pruned(entry: Entry, was: Variable) -> u64
+    ensures { λ r. ⌜ r ≡ prunedBy (entry .predicate .kind) (entry .old) (was .bounds) ⌝ }
 {
-    if taken.hole {
-        if taken.lower {
-            0
-        } else if taken.upper {
-            0
-        } else {
-            1
-        }
-    } else {
-        0
-    }
-}
-
-// What an entry added to the count: how far the bounds moved, and 1 for a value removed between them.
-fn pruned(taken: Traces, entry: Entry, was: Variable) -> u64
-    ensures { λ r. ⌜ r ≡ prunedWith taken (entry .old) (was .bounds) ⌝ }
-{
-    let old = entry.old;
-    let now = was.bounds;
-    let lower = integers::abs_diff(old.lower, now.lower) as u64;
-    let upper = integers::abs_diff(old.upper, now.upper) as u64;
-    lower + upper + hole_alone(taken)
+    let predicate = entry.predicate;
+    let kind = predicate.kind;
+    domains::pruned(kind, entry.old, was.bounds)
 }
 
 // The place of a pool's newest update after an undo: blank if the update goes.
@@ -264,7 +234,7 @@ pub fn synchronise(
         holes.updates[hole_at] = place(hole_top, taken.hole);
         holes.length = shortened(holes.length, taken.hole);
         held[at] = before(was, entry, taken, lower_top, upper_top, hole_top);
-        count = less(count, pruned(taken, entry, was));
+        count = less(count, pruned(entry, was));
         pairs = append(variables, lowers, pairs, entry, was);
     }
     store.trail = trail;

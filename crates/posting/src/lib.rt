@@ -1,6 +1,8 @@
 // The post: a predicate with its reason, made part of the store. Relies on rules for what it comes to, and on stores.
 use domains::Bounds;
 use domains::Step;
+use domains::is_not_equal_predicate;
+use domains::pruned;
 use pools::Pool;
 use pools::Update;
 use predicates::Predicate;
@@ -15,7 +17,6 @@ use stores::Refusal;
 use stores::Variable;
 ghost use mathlib.Core.Path.{_≡_};
 ghost use Prim.Native.Nat.{_<_};
-ghost use Rattle.domains.specs.Domain.{isNotEqual, prunedBy};
 ghost use Rattle.rules.specs.Kept.{domainIn, Sound};
 ghost use Rattle.stores.specs.Calls.{postAnswer, postStore};
 ghost use Rattle.stores.specs.Made.{Made};
@@ -26,17 +27,6 @@ ghost use Rattle.posting.specs.Decision.{decision};
 pub enum Decision {
     Stays(PostAnswer),
     Moves(Bounds),
-}
-
-fn is_not_equal_predicate(kind: PredicateType) -> bool
-    ensures { λ r. ⌜ r ≡ isNotEqual kind ⌝ }
-{
-    match kind {
-        PredicateType::LowerBound => false,
-        PredicateType::NotEqual => true,
-        PredicateType::Equal => false,
-        PredicateType::UpperBound => false,
-    }
 }
 
 // What a post that does nothing answers.
@@ -67,27 +57,6 @@ fn overflow(entries: usize) -> PostAnswer
         return PostAnswer::Refused(Refusal::TrailFull);
     }
     PostAnswer::Refused(Refusal::StepOverflow)
-}
-
-fn wide(number: u32) -> u64
-    ensures { λ r. ⌜ r ≡ number ⌝ }
-{
-    number as u64
-}
-
-// What an entry adds to the count.
-fn pruned(kind: PredicateType, from: Bounds, to: Bounds) -> u64
-    ensures { λ r. ⌜ r ≡ prunedBy kind from to ⌝ }
-{
-    let below = wide(integers::abs_diff(from.lower, to.lower));
-    let above = wide(integers::abs_diff(from.upper, to.upper));
-    let moved = below + above;
-    if moved == 0 {
-        if is_not_equal_predicate(kind) {
-            return 1;
-        }
-    }
-    moved
 }
 
 // Decided on what a post reads of the store, the record of its variable among it, so that a host that keeps a store need

@@ -7,10 +7,10 @@ use mir.Val.{SFits}
 use mir.Facts.{toZ-ofZ}
 use native.Mathlib.Omega.{arith}
 use Rattle.integers.specs.Distance.{distance}
 use Rattle.domains.specs.Tests.{clash}
-use Rattle.posting.proofs.Counting.{moved, counts-one, counts-moved}
-use Rattle.posting.proofs.pruned.Statement.{statement}
-use Rattle.posting.proofs.pruned.Tie as tie
+use Rattle.domains.proofs.Counting.{moved, counts-one, counts-moved}
+use Rattle.domains.proofs.pruned.Statement.{statement}
+use Rattle.domains.proofs.pruned.Tie as tie
 
 abs-diff-requires : tie.Need-abs-diff-requires
 abs-diff-requires c κs = search needs
