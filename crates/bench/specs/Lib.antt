@@ -1,5 +1,2 @@
 pub mod Seen
-pub mod Run
-pub mod Lift
 pub mod Table
-pub mod Checks

@@ -6,7 +6,7 @@ use mathlib.Core.Path.{_≡_}
 use mathlib.Core.List.{List, [], _∷_, map}
 use lib.IntN.{ℤ, pos}
 use Rattle.predicates.specs.declared.PredicateType.the-variants.{LowerBound, NotEqual, Equal}
-use Rattle.domains.specs.Fits.{first, last}
+use Rattle.domains.specs.Limits.{first, last}
 use Rattle.stores.specs.declared.GrowAnswer.the-variants.{Grown}
 use Rattle.stores.specs.Words.{Told}
 use Rattle.stores.specs.Words.Told.{refused}

@@ -8,7 +8,8 @@ use lib.IntN.{ℤ, sucℤ}
 use lib.ListN.{length}
 use lib.Signed.{_<ℤ_}
 use native.Mathlib.Omega.{arith}
-use Rattle.integers.specs.Order.{eqZ, integers, suc=}
+use Rattle.integers.specs.Integers.{eqZ}
+use Rattle.integers.proofs.Order.{integers, suc=}
 use Rattle.domains.specs.Choice.{pick}
 use Rattle.domains.specs.Domain.{has}
 use Rattle.stores.specs.Calls.{unlisted}

@@ -8,7 +8,7 @@ use lib.ListN.{length, set}
 use lib.Seq.{getD-set-same, set-set}
 use native.Mathlib.Omega.{arith}
 use borrow.Author.Tests.{lt-ltb}
-use Rattle.integers.specs.Order.{add=, neg=, abs=}
+use Rattle.integers.proofs.Order.{add=, neg=, abs=}
 use Rattle.integers.specs.Distance.{distance}
 use Rattle.predicates.specs.declared.PredicateType.the-variants.{LowerBound, UpperBound}
 use Rattle.domains.specs.declared.Bounds.{Bounds}

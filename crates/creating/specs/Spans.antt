@@ -7,11 +7,11 @@ use lib.IntN.{ℤ, pos}
 use lib.Signed.{ltZ, _≤ℤ_}
 use lib.ListN.{length, getD, drop}
 use native.Mathlib.Omega.{arith}
-use Rattle.integers.specs.Order.{integers}
+use Rattle.integers.proofs.Order.{integers}
 use Rattle.domains.specs.Choice.{pick}
 use Rattle.domains.specs.Domain.{has}
 use Rattle.stores.specs.Calls.{smallest, largest, spanOf, isEmpty}
-use Rattle.stores.specs.Lists.{smallest-listed, largest-listed}
+use Rattle.stores.proofs.Lists.{smallest-listed, largest-listed}
 use Rattle.creating.specs.Parts.{between}
 
 -- a pass begins with the first

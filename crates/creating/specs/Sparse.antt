@@ -10,11 +10,11 @@ use lib.Seq.{getD-set-same}
 use lib.Dec.{ltb, leb}
 use borrow.Author.Tests.{ltb-true, ltb-false, leb-true, leb-false}
 use native.Mathlib.Omega.{arith}
-use Rattle.integers.specs.Order.{integers}
+use Rattle.integers.proofs.Order.{integers}
 use Rattle.predicates.specs.declared.DomainId.{DomainId}
 use Rattle.domains.specs.declared.Bounds.{Bounds}
 use Rattle.domains.specs.Choice.{pick}
-use Rattle.domains.specs.Tests.{by-cases}
+use Rattle.domains.proofs.Tests.{by-cases}
 use Rattle.stores.specs.declared.Refusal.{Refusal}
 use Rattle.stores.specs.declared.GrowAnswer.{GrowAnswer}
 use Rattle.stores.specs.declared.GrowAnswer.the-variants as Grow
@@ -22,9 +22,9 @@ use Rattle.stores.specs.declared.Variable.{Variable}
 use Rattle.stores.specs.declared.Assignments.{Assignments}
 use Rattle.stores.specs.Store.{noVariable, recorded, allocated, marked}
 use Rattle.stores.specs.Calls.{growAnswer, growStore, grows, grown, spanOf, missing, listAnswer, listStore, listed}
-use Rattle.stores.specs.Straight.{Straight, tidy}
-use Rattle.stores.specs.Meaning.{meant}
-use Rattle.stores.specs.Cases.{grow-above, grow-many, grow-full, grow-taken, list-above, list-many, list-full, list-taken}
+use Rattle.stores.proofs.Straight.{Straight, tidy}
+use Rattle.stores.proofs.Meaning.{meant}
+use Rattle.stores.proofs.Cases.{grow-above, grow-many, grow-full, grow-taken, list-above, list-many, list-full, list-taken}
 use Rattle.creating.specs.Parts.{between}
 use Rattle.creating.specs.Dense.{dense, grown-dense}
 use Rattle.creating.specs.Spans.{Spanned}

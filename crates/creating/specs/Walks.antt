@@ -9,11 +9,12 @@ use lib.Signed.{_≤ℤ_, _<ℤ_}
 use lib.ListN.{length, set, length-set}
 use lib.Seq.{getD-set-same}
 use native.Mathlib.Omega.{arith}
-use Rattle.integers.specs.Order.{eqZ, integers, suc=}
+use Rattle.integers.specs.Integers.{eqZ}
+use Rattle.integers.proofs.Order.{integers, suc=}
 use Rattle.predicates.specs.declared.PredicateType.the-variants.{NotEqual}
 use Rattle.predicates.specs.declared.Reason.the-variants.{None}
 use Rattle.domains.specs.declared.Bounds.{Bounds}
-use Rattle.domains.specs.Tests.{by-cases, clash}
+use Rattle.domains.proofs.Tests.{by-cases, clash}
 use Rattle.domains.specs.Domain.{has, width, prunedBy}
 use Rattle.stores.specs.declared.Variable.{Variable}
 use Rattle.stores.specs.declared.Assignments.{Assignments}

@@ -10,10 +10,11 @@ use lib.Seq.{getD-set-same, getD-set-other}
 use lib.Dec.{eqb}
 use borrow.Author.Tests.{eqb-true, eqb-false}
 use native.Mathlib.Omega.{arith}
-use Rattle.integers.specs.Order.{plus, minus, eqZ, integers, suc=}
+use Rattle.integers.specs.Integers.{plus, minus, eqZ}
+use Rattle.integers.proofs.Order.{integers, suc=}
 use Rattle.integers.specs.Distance.{distance}
 use Rattle.domains.specs.Domain.{has}
-use Rattle.pools.specs.RunLaws.{apart}
+use Rattle.pools.proofs.RunLaws.{apart}
 
 -- w lies as far above v as k lies above n
 abbrev pub Level : ℤ → ℕ → ℤ → ℕ → Type 0

@@ -4,13 +4,14 @@ use mathlib.Core.Bool.{Bool, true, false, _&&_}
 use mathlib.Core.Path.{_≡_, refl}
 use lib.IntN.{ℤ, negℤ, _-ℤ_}
 use native.Mathlib.Omega.{arith}
-use Rattle.integers.specs.Order.{eqZ, integers, abs=, add=, neg=}
+use Rattle.integers.specs.Integers.{eqZ}
+use Rattle.integers.proofs.Order.{integers, abs=, add=, neg=}
 use Rattle.integers.specs.Distance.{distance}
 use Rattle.predicates.specs.declared.PredicateType.{PredicateType}
 use Rattle.domains.specs.declared.Bounds.{Bounds}
 use Rattle.domains.specs.Choice.{pick}
 use Rattle.domains.specs.Domain.{isNotEqual, prunedBy}
-use Rattle.domains.specs.Tests.{both}
+use Rattle.domains.proofs.Tests.{both}
 
 still : (a b : ℤ) → distance a b ≡ 0 → eqZ a b ≡ true
 unfolding distance

@@ -4,7 +4,7 @@ use mathlib.Core.Bool.{Bool, true, false, not, _&&_, _||_}
 use mathlib.Core.List.{List, [], _∷_, map}
 use lib.IntN.{ℤ, pos, negsuc, sucℤ, predℤ, negℤ}
 use lib.Signed.{leZ, ltZ}
-use Rattle.integers.specs.Order.{plus, minus, eqZ}
+use Rattle.integers.specs.Integers.{plus, minus, eqZ}
 use Rattle.integers.specs.Distance.{distance}
 use Rattle.predicates.specs.declared.PredicateType.{PredicateType}
 use Rattle.predicates.specs.declared.PredicateType.the-variants.{LowerBound, NotEqual, Equal, UpperBound}

@@ -1,11 +1,5 @@
 pub mod Choice
+pub mod Limits
 pub mod Domain
 pub mod Promises
-pub mod Tests
-pub mod Stepping
-pub mod Membership
-pub mod Narrowing
-pub mod Laws
-pub mod Fits
 pub mod Truth
-pub mod TruthLaws

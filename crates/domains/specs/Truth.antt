@@ -5,7 +5,7 @@ use mathlib.Core.Logic.{_↔_}
 use mathlib.Core.Bool.{Bool, true, false, not}
 use lib.IntN.{ℤ}
 use lib.Signed.{leZ, ltZ}
-use Rattle.integers.specs.Order.{eqZ}
+use Rattle.integers.specs.Integers.{eqZ}
 use Rattle.predicates.specs.declared.PredicateType.{PredicateType}
 use Rattle.predicates.specs.declared.PredicateType.the-variants.{LowerBound, NotEqual, Equal, UpperBound}
 use Rattle.domains.specs.Choice.{pick}

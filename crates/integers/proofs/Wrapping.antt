@@ -5,7 +5,8 @@ use lib.IntN.{ℤ, pos, negℤ, _+ℤ_, _-ℤ_}
 use mir.Syntax.{w32, w64}
 use mir.Val.{SFits}
 use native.Mathlib.Omega.{arith}
-use Rattle.integers.specs.Order.{plus, minus, integers, add=, neg=, abs=, fits→}
+use Rattle.integers.specs.Integers.{plus, minus}
+use Rattle.integers.proofs.Order.{integers, add=, neg=, abs=, fits→}
 use Rattle.integers.specs.Distance.{distance, wrapped}
 
 -- an i32 plus 2^31 is not negative

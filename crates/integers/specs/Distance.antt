@@ -1,7 +1,7 @@
 -- The distance of two integers, as whole numbers have it. Assumes nothing.
 use Prim.Native.Nat.{ℕ, _+_, _-_, _%_}
 use lib.IntN.{ℤ, natAbs, _-ℤ_}
-use Rattle.integers.specs.Order.{plus, minus}
+use Rattle.integers.specs.Integers.{plus, minus}
 
 -- how far a and b lie apart
 unfoldable pub distance : ℤ → ℤ → ℕ

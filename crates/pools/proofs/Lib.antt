@@ -1,1 +1,3 @@
+pub mod ChainLaws
+pub mod RunLaws
 pub mod Bits

@@ -1,4 +1,2 @@
 pub mod Chain
-pub mod ChainLaws
 pub mod Runs
-pub mod RunLaws

@@ -7,7 +7,7 @@ use mathlib.Core.List.{List}
 use lib.IntN.{ℤ, pos, _+ℤ_, _-ℤ_}
 use lib.ListN.{getD}
 use lib.Dec.{eqb}
-use Rattle.integers.specs.Order.{eqZ}
+use Rattle.integers.specs.Integers.{eqZ}
 use Rattle.domains.specs.Domain.{has}
 
 -- the value that lies k from a value, upwards or downwards

@@ -9,18 +9,18 @@ use Rattle.predicates.specs.declared.Predicate.{Predicate}
 use Rattle.predicates.specs.declared.Reason.{Reason}
 use Rattle.domains.specs.declared.Bounds.{Bounds}
 use Rattle.domains.specs.Domain.{overflows}
-use Rattle.domains.specs.Tests.{by-cases, picked}
-use Rattle.rules.specs.Kept.{domainIn, Sound}
+use Rattle.domains.proofs.Tests.{by-cases, picked}
+use Rattle.rules.specs.Sound.{domainIn, Sound}
 use Rattle.stores.specs.declared.Variable.{Variable}
 use Rattle.stores.specs.declared.Assignments.{Assignments}
 use Rattle.stores.specs.declared.PostAnswer.{PostAnswer}
 use Rattle.stores.specs.Store.{variableOf, domainOf}
 use Rattle.stores.specs.Calls.{domainBefore, boundsAfter, does, postAnswer, postStore}
-use Rattle.stores.specs.Cases.{post-absent, post-idle, post-full, post-overflows}
+use Rattle.stores.proofs.Cases.{post-absent, post-idle, post-full, post-overflows}
 use Rattle.stores.specs.Made.{Made}
-use Rattle.stores.specs.History.{straight}
-use Rattle.stores.specs.Straight.{tidy}
-use Rattle.stores.specs.Steps.{tight-of, fits-of}
+use Rattle.stores.proofs.History.{straight}
+use Rattle.stores.proofs.Straight.{tidy}
+use Rattle.stores.proofs.Steps.{tight-of, fits-of}
 use Rattle.posting.specs.declared.Decision.{Decision}
 use Rattle.posting.specs.declared.Decision.the-variants.{Stays, Moves}
 use Rattle.posting.specs.Decision.{decision}

@@ -9,13 +9,14 @@ use native.Mathlib.Numerals.{add-one}
 use borrow.Author.Tests.{lt-ltb}
 use mir.Syntax.{w32}
 use mir.Val.{SFits, ofZ}
-use Rattle.integers.specs.Order.{eqZ, integers, bits-eq}
+use Rattle.integers.specs.Integers.{eqZ}
+use Rattle.integers.proofs.Order.{integers, bits-eq}
 use Rattle.predicates.specs.declared.Predicate.{Predicate}
 use Rattle.predicates.specs.declared.Reason.{Reason}
 use Rattle.domains.specs.declared.Bounds.{Bounds}
 use Rattle.domains.specs.Choice.{pick}
 use Rattle.domains.specs.Domain.{isNotEqual, prunedBy}
-use Rattle.domains.specs.Tests.{by-cases}
+use Rattle.domains.proofs.Tests.{by-cases}
 use Rattle.pools.specs.declared.Update.{Update}
 use Rattle.pools.specs.declared.Pool.{Pool}
 use Rattle.pools.specs.Chain.{pushed}

@@ -8,7 +8,7 @@ use Rattle.domains.specs.declared.Bounds.{Bounds}
 use Rattle.domains.specs.Choice.{pick}
 use Rattle.domains.specs.Domain.{Domain, acts, overflows, lowerAfter, upperAfter}
 use Rattle.pools.specs.declared.Pool.{Pool}
-use Rattle.rules.specs.Kept.{domainIn}
+use Rattle.rules.specs.Sound.{domainIn}
 use Rattle.stores.specs.declared.Variable.{Variable}
 use Rattle.stores.specs.declared.Refusal.the-variants.{NoVariable, TrailFull, StepOverflow}
 use Rattle.stores.specs.declared.PostAnswer.the-variants.{Refused}

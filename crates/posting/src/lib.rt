@@ -17,7 +17,7 @@ use stores::Refusal;
 use stores::Variable;
 ghost use mathlib.Core.Path.{_≡_};
 ghost use Prim.Native.Nat.{_<_};
-ghost use Rattle.rules.specs.Kept.{domainIn, Sound};
+ghost use Rattle.rules.specs.Sound.{domainIn, Sound};
 ghost use Rattle.stores.specs.Calls.{postAnswer, postStore};
 ghost use Rattle.stores.specs.Made.{Made};
 ghost use Rattle.posting.specs.Answers.{idleAnswer, overflowAnswer, takenAnswer};

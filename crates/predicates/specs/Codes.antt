@@ -1,7 +1,5 @@
 -- The numbers and words of a predicate's parts (RULES.md, "What the store holds"). Assumes nothing.
-use Prim.Native.Nat.{ℕ, zero, suc, _<_}
-use mathlib.Core.Path.{_≡_, refl}
-use native.Mathlib.Omega.{arith}
+use Prim.Native.Nat.{ℕ, zero, suc}
 use Rattle.predicates.specs.declared.PredicateType.{PredicateType}
 use Rattle.predicates.specs.declared.PredicateType.the-variants.{LowerBound, NotEqual, Equal, UpperBound}
 
@@ -12,23 +10,9 @@ codeOf NotEqual = 1
 codeOf Equal = 2
 codeOf UpperBound = 3
 
--- there is no fifth code
-pub code-below : (k : PredicateType) → codeOf k < 4
-code-below LowerBound = omega arith
-code-below NotEqual = omega arith
-code-below Equal = omega arith
-code-below UpperBound = omega arith
-
 -- the kind of each code; a number past the four is read as the last, and nothing asks for it
 abbrev pub kindOf : ℕ → PredicateType
 kindOf zero = LowerBound
 kindOf (suc zero) = NotEqual
 kindOf (suc (suc zero)) = Equal
 kindOf (suc (suc (suc n))) = UpperBound
-
--- a code tells its kind, so no two kinds share one
-pub code-tells : (k : PredicateType) → kindOf (codeOf k) ≡ k
-code-tells LowerBound = refl
-code-tells NotEqual = refl
-code-tells Equal = refl
-code-tells UpperBound = refl

@@ -6,7 +6,7 @@ use mathlib.Core.Bool.{Bool, true, false}
 use lib.Dec.{leb}
 use Rattle.domains.specs.Choice.{pick}
 use Rattle.domains.specs.Domain.{Domain}
-use Rattle.domains.specs.Tests.{clash}
+use Rattle.domains.proofs.Tests.{clash}
 use Rattle.stores.specs.declared.Assignments.{Assignments}
 use Rattle.stores.specs.declared.Variable.{Variable}
 use Rattle.stores.specs.declared.Refusal.{Refusal}
@@ -14,8 +14,8 @@ use Rattle.stores.specs.declared.Refusal.the-variants.{NoVariable}
 use Rattle.stores.specs.Made.{Made}
 use Rattle.stores.specs.Store.{variableOf, domainOf}
 use Rattle.stores.specs.Positions.{domainAt}
-use Rattle.stores.specs.Straight.{tidy}
-use Rattle.stores.specs.History.{straight}
+use Rattle.stores.proofs.Straight.{tidy}
+use Rattle.stores.proofs.History.{straight}
 use Rattle.questions.specs.declared.parts.Found.{Found}
 use Rattle.questions.specs.declared.parts.Found.the-variants.{Record, Nothing}
 use Rattle.questions.specs.Parts.{foundIn, boundsAt, holesIn, holesAt, within}

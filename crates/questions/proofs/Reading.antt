@@ -8,8 +8,9 @@ use mir.Syntax.{w32}
 use mir.Val.{hbits, ofZ, toZ}
 use mir.Facts.{toZ-ofZ}
 use borrow.Author.Tests.{eqb-true, eq-eqb}
-use Rattle.integers.specs.Order.{eqZ, integers, bits-eq}
-use Rattle.domains.specs.Tests.{same-test}
+use Rattle.integers.specs.Integers.{eqZ}
+use Rattle.integers.proofs.Order.{integers, bits-eq}
+use Rattle.domains.proofs.Tests.{same-test}
 
 -- an i32 that a struct holds, or that a callee answers
 pub read : (z : ℤ) → mag z < 2 ^ hbits w32 → toZ w32 (ofZ w32 z) ≡ z

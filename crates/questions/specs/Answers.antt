@@ -5,7 +5,7 @@ use mathlib.Core.Bool.{Bool, true, false}
 use mathlib.Core.List.{[], _∷_}
 use lib.IntN.{ℤ}
 use lib.Dec.{leb}
-use Rattle.integers.specs.Order.{eqZ}
+use Rattle.integers.specs.Integers.{eqZ}
 use Rattle.predicates.specs.declared.PredicateType.{PredicateType}
 use Rattle.domains.specs.Choice.{pick}
 use Rattle.domains.specs.Domain.{Domain, member, width}

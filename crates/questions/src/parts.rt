@@ -13,7 +13,7 @@ ghost use mathlib.Core.Bool.{not, _&&_};
 ghost use mathlib.Core.List.{List};
 ghost use Prim.Native.Nat.{_≤_};
 ghost use lib.IntN.{ℤ};
-ghost use Rattle.integers.specs.Order.{eqZ};
+ghost use Rattle.integers.specs.Integers.{eqZ};
 ghost use Rattle.domains.specs.Domain.{has, member};
 ghost use Rattle.questions.specs.Parts.{foundIn, lowerAt, upperAt, boundsAt, within, holesIn, holesAt};
 ghost use Rattle.questions.specs.Answers.{assignedValue, truth, leftOf};

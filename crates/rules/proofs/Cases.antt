@@ -5,17 +5,19 @@ use lib.IntN.{ℤ, sucℤ, predℤ}
 use lib.Signed.{ltZ}
 use mir.Syntax.{w32}
 use mir.Val.{SFits}
-use Rattle.integers.specs.Order.{eqZ, integers, suc=, pred=}
+use Rattle.integers.specs.Integers.{eqZ}
+use Rattle.integers.proofs.Order.{integers, suc=, pred=}
 use Rattle.predicates.specs.declared.PredicateType.{PredicateType}
 use Rattle.predicates.specs.declared.PredicateType.the-variants.{NotEqual, Equal}
 use Rattle.domains.specs.declared.Step.the-variants.{Nothing, Overflows, Moves}
 use Rattle.domains.specs.Choice.{pick}
 use Rattle.domains.specs.Domain.{Domain, raised, lowered, acts, lowerAfter, upperAfter, overflows, stepOf}
-use Rattle.domains.specs.Fits.{first, last, suc-fits, pred-fits}
-use Rattle.domains.specs.Membership.{Left, left, is-left}
+use Rattle.domains.specs.Limits.{first, last}
+use Rattle.domains.proofs.Fits.{suc-fits, pred-fits}
+use Rattle.domains.proofs.Membership.{Left, left, is-left}
 use Rattle.domains.specs.Promises.{Fits}
-use Rattle.domains.specs.Stepping.{stays, raised-is, lowered-is}
-use Rattle.domains.specs.Tests.{by-cases}
+use Rattle.domains.proofs.Stepping.{stays, raised-is, lowered-is}
+use Rattle.domains.proofs.Tests.{by-cases}
 
 module _ (k : PredicateType) (v : ℤ) (d : Domain) where
   pub idle : acts k v d ≡ false → Nothing ≡ stepOf k v d

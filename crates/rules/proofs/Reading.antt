@@ -7,10 +7,11 @@ use lib.Signed.{mag, ltZ, _<ℤ_}
 use mir.Syntax.{w32}
 use mir.Val.{SFits, hbits, ofZ, toZ}
 use mir.Facts.{toZ-ofZ}
-use Rattle.integers.specs.Order.{integers, suc=, pred=, add=}
+use Rattle.integers.proofs.Order.{integers, suc=, pred=, add=}
 use Rattle.domains.specs.Domain.{Domain, has}
-use Rattle.domains.specs.Fits.{first, last, lower-hole, upper-hole}
-use Rattle.rules.specs.Kept.{Sound}
+use Rattle.domains.specs.Limits.{first, last}
+use Rattle.domains.proofs.Fits.{lower-hole, upper-hole}
+use Rattle.rules.specs.Sound.{Sound}
 
 -- a test `<`
 pub tested : {a b : ℤ} {t : Bool} → SFits w32 a → SFits w32 b → ltZ (toZ w32 (ofZ w32 a)) (toZ w32 (ofZ w32 b)) ≡ t → ltZ a b ≡ t

@@ -6,7 +6,7 @@ use pools::Pool;
 use predicates::PredicateType;
 ghost use mathlib.Core.Path.{_≡_};
 ghost use Rattle.domains.specs.Domain.{stepOf};
-ghost use Rattle.rules.specs.Kept.{domainIn, Sound};
+ghost use Rattle.rules.specs.Sound.{domainIn, Sound};
 
 fn tighten_lower_bound(holes: Pool, newest: u16, bounds: Bounds, value: i32) -> Step
     requires { ⌜ Sound (domainIn holes newest bounds) ⌝ }

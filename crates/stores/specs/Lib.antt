@@ -5,12 +5,4 @@ pub mod Calls
 pub mod Made
 pub mod Replay
 pub mod Positions
-pub mod Straight
-pub mod Undo
-pub mod Meaning
-pub mod Steps
-pub mod Lists
-pub mod Cases
-pub mod History
 pub mod Promises
-pub mod Kept

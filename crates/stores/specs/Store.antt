@@ -5,7 +5,7 @@ use mathlib.Core.Bool.{Bool, not}
 use mathlib.Core.List.{List}
 use lib.IntN.{ℤ, pos}
 use lib.ListN.{getD, set, replicate}
-use Rattle.integers.specs.Order.{eqZ}
+use Rattle.integers.specs.Integers.{eqZ}
 use Rattle.predicates.specs.declared.Predicate.{Predicate}
 use Rattle.predicates.specs.declared.PredicateType.the-variants.{LowerBound}
 use Rattle.predicates.specs.declared.Reason.{Reason}

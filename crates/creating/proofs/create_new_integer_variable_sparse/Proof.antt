@@ -9,7 +9,7 @@ use native.Mathlib.Omega.{arith}
 use Rattle.domains.specs.declared.Bounds.{Bounds}
 use Rattle.stores.specs.declared.Assignments.{Assignments}
 use Rattle.stores.specs.Calls.{spanOf, growAnswer, growStore}
-use Rattle.stores.specs.History.{straight}
+use Rattle.stores.proofs.History.{straight}
 use Rattle.creating.specs.Parts.{between}
 use Rattle.creating.specs.Spans.{Spanned, spanned}
 use Rattle.creating.specs.Sparse.{nothing-alike, refused-alike, walk-start, full-alike, mark-there, taken-alike}

@@ -7,9 +7,9 @@ use native.Mathlib.Omega.{arith}
 use native.Mathlib.Numerals.{add-one}
 use Rattle.pools.specs.declared.Pool.{Pool}
 use Rattle.stores.specs.Calls.{atLeast, atMost}
-use Rattle.stores.specs.Straight.{tidy}
-use Rattle.stores.specs.History.{straight}
-use Rattle.stores.specs.Cases.{grow-above, grow-bad, grow-many, grow-full, grow-taken}
+use Rattle.stores.proofs.Straight.{tidy}
+use Rattle.stores.proofs.History.{straight}
+use Rattle.stores.proofs.Cases.{grow-above, grow-bad, grow-many, grow-full, grow-taken}
 use Rattle.creating.specs.Parts.{between, withoutReason}
 use Rattle.creating.specs.Dense.{newest, dense, grown-dense, push-comes}
 use borrow.Author.Needs.{needs}

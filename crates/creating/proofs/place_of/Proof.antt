@@ -1,7 +1,7 @@
 -- `place_of` is the place: what lies below or far is outside the window, and the distance is the place of the rest.
 use mir.Facts.{toZ-ofZ}
 use native.Mathlib.Omega.{arith}
-use Rattle.integers.specs.Order.{integers}
+use Rattle.integers.proofs.Order.{integers}
 use Rattle.creating.specs.Windows.{behind, near, far}
 use borrow.Author.Needs.{needs}
 use Rattle.creating.proofs.place_of.Statement.{statement}

@@ -6,9 +6,9 @@ use mir.Facts.{toZ-ofZ}
 use Prim.Native.Nat.{_-_}
 use lib.IntN.{negℤ, _-ℤ_}
 use borrow.Author.Tests.{leb-true}
-use Rattle.integers.specs.Order.{integers, abs=, add=, neg=}
+use Rattle.integers.proofs.Order.{integers, abs=, add=, neg=}
 use Rattle.integers.specs.Distance.{distance}
-use Rattle.domains.specs.Tests.{clash}
+use Rattle.domains.proofs.Tests.{clash}
 use borrow.Author.Needs.{needs}
 use Rattle.creating.proofs.too_wide.Statement.{statement}
 use Rattle.creating.proofs.too_wide.Tie as tie

@@ -8,13 +8,13 @@ use lib.IntN.{ℤ, pos, sucℤ, _+ℤ_}
 use lib.Signed.{_<ℤ_}
 use lib.ListN.{getD, length-replicate}
 use borrow.Author.Tests.{not-true, not-false}
-use Rattle.domains.specs.Tests.{clash}
+use Rattle.domains.proofs.Tests.{clash}
 use mir.Syntax.{w32}
 use mir.Val.{SFits, ofZ, toZ}
 use mir.Facts.{toZ-ofZ}
 use native.Mathlib.Omega.{arith}
 use native.Mathlib.Numerals.{add-one}
-use Rattle.integers.specs.Order.{integers, add=, suc=, fits→, →fits}
+use Rattle.integers.proofs.Order.{integers, add=, suc=, fits→, →fits}
 use Rattle.domains.specs.declared.Bounds.{Bounds}
 use borrow.Author.Needs.{needs}
 use Rattle.domains.specs.Domain.{has, width}

@@ -4,7 +4,7 @@ use lib.Signed.{_≤ℤ_}
 use native.Mathlib.Omega.{arith}
 use Rattle.domains.specs.declared.Bounds.{Bounds}
 use Rattle.domains.specs.Domain.{width}
-use Rattle.domains.specs.Tests.{clash}
+use Rattle.domains.proofs.Tests.{clash}
 use Rattle.stores.specs.Calls.{spanOf}
 use Rattle.creating.specs.Covering.{covered}
 use borrow.Author.Needs.{needs}

@@ -7,7 +7,7 @@ use mir.Val.{SFits}
 use mir.Facts.{toZ-ofZ}
 use native.Mathlib.Omega.{arith}
 use Rattle.integers.specs.Distance.{distance}
-use Rattle.domains.specs.Tests.{clash}
+use Rattle.domains.proofs.Tests.{clash}
 use Rattle.domains.proofs.Counting.{moved, counts-one, counts-moved}
 use Rattle.domains.proofs.pruned.Statement.{statement}
 use Rattle.domains.proofs.pruned.Tie as tie

@@ -2,7 +2,7 @@
 use borrow.Author.Needs.{needs}
 use mathlib.Core.Path.{_∙_}
 use mir.Facts.{toZ-ofZ}
-use Rattle.integers.specs.Order.{integers}
+use Rattle.integers.proofs.Order.{integers}
 use Rattle.integers.proofs.Wrapping.{upwards, same-down}
 use Rattle.integers.proofs.abs_diff.Statement.{statement}
 use Rattle.integers.proofs.abs_diff.Tie as tie

@@ -4,7 +4,7 @@ use mir.Syntax.{w64}
 use mir.Val.{SFits}
 use mir.Facts.{toZ-ofZ, sfits-widen}
 use native.Mathlib.Omega.{arith}
-use Rattle.integers.specs.Order.{fits→}
+use Rattle.integers.proofs.Order.{fits→}
 use Rattle.integers.proofs.Wrapping.{shifted, shifted-fits}
 use Rattle.integers.proofs.bits.Statement.{statement}
 use Rattle.integers.proofs.bits.Tie as tie

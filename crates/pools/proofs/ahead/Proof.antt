@@ -2,8 +2,8 @@
 use borrow.Author.Needs.{needs}
 use mir.Facts.{toZ-ofZ}
 use native.Mathlib.Omega.{arith}
-use Rattle.integers.specs.Order.{integers}
-use Rattle.pools.specs.RunLaws.{behind, near, far}
+use Rattle.integers.proofs.Order.{integers}
+use Rattle.pools.proofs.RunLaws.{behind, near, far}
 use Rattle.pools.proofs.ahead.Statement.{statement}
 use Rattle.pools.proofs.ahead.Tie as tie
 

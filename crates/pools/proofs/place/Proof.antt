@@ -1,7 +1,7 @@
 -- `place` gives the place: above by `ahead`, and below by `ahead` with the two numbers exchanged.
 use borrow.Author.Needs.{needs}
 use mir.Facts.{toZ-ofZ}
-use Rattle.pools.specs.RunLaws.{mirrored}
+use Rattle.pools.proofs.RunLaws.{mirrored}
 use Rattle.pools.proofs.place.Statement.{statement}
 use Rattle.pools.proofs.place.Tie as tie
 

@@ -1,8 +1,8 @@
 -- `span` counts the values: none where `to` lies below, else one more than the distance.
 use borrow.Author.Needs.{needs}
 use mir.Facts.{toZ-ofZ}
-use Rattle.integers.specs.Order.{integers}
-use Rattle.pools.specs.RunLaws.{apart}
+use Rattle.integers.proofs.Order.{integers}
+use Rattle.pools.proofs.RunLaws.{apart}
 use Rattle.pools.proofs.span.Statement.{statement}
 use Rattle.pools.proofs.span.Tie as tie
 

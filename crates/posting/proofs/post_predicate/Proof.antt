@@ -9,7 +9,7 @@ use mir.Val.{SFits}
 use mir.Facts.{toZ-ofZ}
 use Rattle.domains.specs.declared.Bounds.{Bounds}
 use Rattle.domains.specs.Domain.{moved}
-use Rattle.domains.specs.Fits.{pruned-fits}
+use Rattle.domains.proofs.Fits.{pruned-fits}
 use Rattle.predicates.specs.declared.Predicate.{Predicate}
 use Rattle.predicates.specs.declared.Reason.{Reason}
 use Rattle.stores.specs.declared.Variable.{Variable}
@@ -20,10 +20,10 @@ use Rattle.posting.specs.Answers.{takenAnswer}
 use Rattle.posting.proofs.Recording.{has-moved, kept, was, with, linked, lowerMoves, upperMoves, removes, lowers, uppers, removed, lowerLink, upperLink, holeLink, replaced, relinked, all-recorded}
 use Rattle.posting.proofs.Deciding.{Recordable, reads-sound, stays-tell, moves-tell}
 use Rattle.stores.specs.Made.{AreI32}
-use Rattle.stores.specs.Straight.{Tidy, tidy}
-use Rattle.stores.specs.Meaning.{meant}
-use Rattle.stores.specs.Cases.{post-absent, post-taken}
-use Rattle.stores.specs.History.{straight}
+use Rattle.stores.proofs.Straight.{Tidy, tidy}
+use Rattle.stores.proofs.Meaning.{meant}
+use Rattle.stores.proofs.Cases.{post-absent, post-taken}
+use Rattle.stores.proofs.History.{straight}
 use borrow.Author.Needs.{needs}
 use Prim.Native.Nat.{_+_}
 use Rattle.posting.proofs.post_predicate.Statement.{statement}

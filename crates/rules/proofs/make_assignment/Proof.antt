@@ -7,8 +7,8 @@ use mir.Val.{ofZ, toZ}
 use mir.Facts.{toZ-ofZ}
 use Rattle.predicates.specs.declared.PredicateType.the-variants.{Equal}
 use Rattle.domains.specs.Domain.{Domain, raised}
-use Rattle.domains.specs.Fits.{risen-hole}
-use Rattle.rules.specs.Kept.{domainIn}
+use Rattle.domains.proofs.Fits.{risen-hole}
+use Rattle.rules.specs.Sound.{domainIn}
 use Rattle.rules.proofs.Reading.{tested, answer, room-above, room-below}
 use Rattle.rules.proofs.Cases.{idle, assigns}
 use Rattle.rules.proofs.make_assignment.Statement.{statement}

@@ -7,13 +7,14 @@ use mir.Syntax.{w32}
 use mir.Val.{SFits, ofZ}
 use mir.Facts.{toZ-ofZ}
 use borrow.Author.Needs.{needs}
-use Rattle.integers.specs.Order.{eqZ, integers, →fits}
+use Rattle.integers.specs.Integers.{eqZ}
+use Rattle.integers.proofs.Order.{integers, →fits}
 use Rattle.domains.specs.Domain.{Domain}
-use Rattle.domains.specs.Tests.{clash}
-use Rattle.domains.specs.Membership.{Left}
-use Rattle.domains.specs.Fits.{first, last}
+use Rattle.domains.proofs.Tests.{clash}
+use Rattle.domains.proofs.Membership.{Left}
+use Rattle.domains.specs.Limits.{first, last}
 use Rattle.pools.proofs.Bits.{same-bits, other-bits}
-use Rattle.rules.specs.Kept.{domainIn}
+use Rattle.rules.specs.Sound.{domainIn}
 use Rattle.rules.proofs.Reading.{tested, answer, one-more, one-less, room-above, room-below}
 use Rattle.rules.proofs.Cases.{Trims, not-left, only-end, trims, passes}
 use Rattle.rules.proofs.remove_value_from_domain.Statement.{statement}

@@ -20,8 +20,8 @@ use Rattle.stores.specs.Positions.{domainAt}
 use Rattle.stores.specs.Calls.{growAnswer, growStore, openAnswer, listAnswer, listStore, postAnswer, postStore, synchroniseAnswer, synchroniseStore, pairsOf, written, variablesOf, lowersIn}
 use Rattle.stores.specs.Made.{Made}
 use Rattle.stores.specs.Made.Made.{grow as made-grow, list as made-list, post as made-post, openNext as made-open, synchronise as made-back}
-use Rattle.stores.specs.Straight.{tidy}
-use Rattle.stores.specs.History.{straight}
+use Rattle.stores.proofs.Straight.{tidy}
+use Rattle.stores.proofs.History.{straight}
 use Rattle.posting.proofs.Deciding.{reads-sound, stays-tell}
 use Rattle.questions.specs.declared.answers.TruthAnswer.the-variants.{Refused}
 use Rattle.questions.specs.Answers.{truth}

@@ -9,7 +9,7 @@ use native.Mathlib.Omega.{arith}
 use borrow.Author.Needs.{needs}
 use Rattle.domains.specs.Domain.{has}
 use Rattle.pools.specs.Chain.{noUpdate, chain, chainOf, valuesOf}
-use Rattle.pools.specs.ChainLaws.{one-step, no-link, past-end}
+use Rattle.pools.proofs.ChainLaws.{one-step, no-link, past-end}
 use Rattle.pools.proofs.Bits.{same-bits, other-bits}
 use Rattle.pools.proofs.Pool.contains.Statement.{statement}
 use Rattle.pools.proofs.Pool.contains.Tie as tie

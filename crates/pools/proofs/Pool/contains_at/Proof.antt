@@ -11,7 +11,7 @@ use borrow.Author.Needs.{needs}
 use borrow.Author.Tests.{le-leb, lt-leb}
 use Rattle.domains.specs.Domain.{has}
 use Rattle.pools.specs.Chain.{noUpdate, chain, chainOf, valuesOf, upTo}
-use Rattle.pools.specs.ChainLaws.{one-step, no-link, past-end}
+use Rattle.pools.proofs.ChainLaws.{one-step, no-link, past-end}
 use Rattle.pools.proofs.Bits.{same-bits, other-bits}
 use Rattle.pools.proofs.Pool.contains_at.Statement.{statement}
 use Rattle.pools.proofs.Pool.contains_at.Tie as tie

@@ -10,9 +10,9 @@ use native.Mathlib.Omega.{arith}
 use borrow.Author.Needs.{needs}
 use Rattle.domains.specs.Domain.{has}
 use Rattle.pools.specs.Chain.{noUpdate, chain, chainOf, valuesOf}
-use Rattle.pools.specs.ChainLaws.{one-step, no-link, past-end}
+use Rattle.pools.proofs.ChainLaws.{one-step, no-link, past-end}
 use Rattle.pools.specs.Runs.{shifted}
-use Rattle.pools.specs.RunLaws.{marks-more}
+use Rattle.pools.proofs.RunLaws.{marks-more}
 use Rattle.pools.proofs.Pool.marks.Statement.{statement}
 use Rattle.pools.proofs.Pool.marks.Tie as tie
 

@@ -8,7 +8,7 @@ use native.Mathlib.Omega.{arith}
 use borrow.Author.Needs.{needs}
 use Rattle.domains.specs.Domain.{lowered}
 use Rattle.pools.specs.Chain.{chainOf, valuesOf}
-use Rattle.pools.specs.RunLaws.{steps-down}
+use Rattle.pools.proofs.RunLaws.{steps-down}
 use Rattle.pools.proofs.Pool.step_down.Statement.{statement}
 use Rattle.pools.proofs.Pool.step_down.Tie as tie
 use Rattle.pools.proofs.Pool.step_down.Reads as reads

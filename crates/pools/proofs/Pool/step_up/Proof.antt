@@ -8,7 +8,7 @@ use native.Mathlib.Omega.{arith}
 use borrow.Author.Needs.{needs}
 use Rattle.domains.specs.Domain.{raised}
 use Rattle.pools.specs.Chain.{chainOf, valuesOf}
-use Rattle.pools.specs.RunLaws.{steps-up}
+use Rattle.pools.proofs.RunLaws.{steps-up}
 use Rattle.pools.proofs.Pool.step_up.Statement.{statement}
 use Rattle.pools.proofs.Pool.step_up.Tie as tie
 use Rattle.pools.proofs.Pool.step_up.Reads as reads

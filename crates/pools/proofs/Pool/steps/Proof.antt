@@ -3,8 +3,8 @@ use mathlib.Core.Path.{refl}
 use borrow.Author.Needs.{needs}
 use mir.Facts.{toZ-ofZ}
 use native.Mathlib.Omega.{arith}
-use Rattle.pools.specs.ChainLaws.{chain-short}
-use Rattle.pools.specs.RunLaws.{steps-end}
+use Rattle.pools.proofs.ChainLaws.{chain-short}
+use Rattle.pools.proofs.RunLaws.{steps-end}
 use Rattle.pools.proofs.Pool.steps.Statement.{statement}
 use Rattle.pools.proofs.Pool.steps.Tie as tie
 

@@ -8,7 +8,7 @@ use native.Mathlib.Omega.{arith}
 use borrow.Author.Needs.{needs}
 use borrow.Author.Tests.{le-leb, lt-leb}
 use Rattle.pools.specs.Chain.{chain, chainOf, upTo, newestOr}
-use Rattle.pools.specs.ChainLaws.{one-step, no-link, past-end}
+use Rattle.pools.proofs.ChainLaws.{one-step, no-link, past-end}
 use Rattle.pools.proofs.Pool.value_at.Statement.{statement}
 use Rattle.pools.proofs.Pool.value_at.Tie as tie
 

@@ -3,7 +3,7 @@ use mathlib.Core.Path.{_≡_}
 use mathlib.Core.Bool.{true, false}
 use lib.Signed.{leZ}
 use mir.Facts.{toZ-ofZ}
-use Rattle.integers.specs.Order.{integers}
+use Rattle.integers.proofs.Order.{integers}
 use Rattle.questions.proofs.Reading.{read}
 use Rattle.questions.proofs.parts.between.Statement.{statement}
 use Rattle.questions.proofs.parts.between.Tie as tie

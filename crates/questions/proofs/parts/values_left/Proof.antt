@@ -1,7 +1,7 @@
 -- `values_left` counts from lower to upper: none where upper lies below, else one more than the distance.
 use borrow.Author.Needs.{needs}
-use Rattle.integers.specs.Order.{integers}
-use Rattle.pools.specs.RunLaws.{apart}
+use Rattle.integers.proofs.Order.{integers}
+use Rattle.pools.proofs.RunLaws.{apart}
 use Rattle.questions.specs.Answers.{leftOf}
 use Rattle.questions.proofs.Reading.{read}
 use Rattle.questions.proofs.parts.values_left.Statement.{statement}

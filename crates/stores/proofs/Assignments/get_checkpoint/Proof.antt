@@ -1,7 +1,7 @@
 -- `get_checkpoint` narrows the checkpoint, of which at most 256 are open.
 use native.Mathlib.Omega.{arith}
-use Rattle.stores.specs.Straight.{tidy}
-use Rattle.stores.specs.History.{straight}
+use Rattle.stores.proofs.Straight.{tidy}
+use Rattle.stores.proofs.History.{straight}
 use borrow.Author.Needs.{needs}
 use Rattle.stores.proofs.Assignments.get_checkpoint.Statement.{statement}
 use Rattle.stores.proofs.Assignments.get_checkpoint.Tie as tie

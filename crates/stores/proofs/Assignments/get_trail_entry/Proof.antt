@@ -2,8 +2,8 @@
 use native.Mathlib.Omega.{arith}
 use borrow.Author.Tests.{le-leb, lt-leb}
 use Rattle.stores.specs.Calls.{entryAnswer}
-use Rattle.stores.specs.Straight.{tidy}
-use Rattle.stores.specs.History.{straight}
+use Rattle.stores.proofs.Straight.{tidy}
+use Rattle.stores.proofs.History.{straight}
 use borrow.Author.Needs.{needs}
 use Rattle.stores.proofs.Assignments.get_trail_entry.Statement.{statement}
 use Rattle.stores.proofs.Assignments.get_trail_entry.Tie as tie

@@ -1,7 +1,7 @@
 -- `num_domains` narrows the number of variables, of which there are at most 256.
 use native.Mathlib.Omega.{arith}
-use Rattle.stores.specs.Straight.{tidy}
-use Rattle.stores.specs.History.{straight}
+use Rattle.stores.proofs.Straight.{tidy}
+use Rattle.stores.proofs.History.{straight}
 use borrow.Author.Needs.{needs}
 use Rattle.stores.proofs.Assignments.num_domains.Statement.{statement}
 use Rattle.stores.proofs.Assignments.num_domains.Tie as tie

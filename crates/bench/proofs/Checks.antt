@@ -7,11 +7,11 @@ use mathlib.Core.List.{List, [], _∷_, map}
 use native.Mathlib.Omega.{arith}
 use Rattle.integers.specs.Distance.{distance}
 use Rattle.domains.specs.Domain.{stepUp, raised, lowered, moved, prunedBy}
-use Rattle.domains.specs.Tests.{both}
+use Rattle.domains.proofs.Tests.{both}
 use Rattle.stores.specs.Calls.{unlisted}
 use Rattle.bench.specs.Seen.{Seen, Post, shown, begun, looked}
-use Rattle.bench.specs.Run.{begins, run}
-use Rattle.bench.specs.Lift.{isI32, every, sound, run-law, start-law}
+use Rattle.bench.proofs.Run.{begins, run}
+use Rattle.bench.proofs.Lift.{isI32, every, sound, run-law, start-law}
 use Rattle.bench.specs.Table.{Check, postsOf, Holds, Each, table}
 
 -- the check as the rules have it

@@ -8,26 +8,21 @@ use lib.Signed.{ltZ, _≤ℤ_, _<ℤ_}
 use native.Mathlib.Omega.{arith}
 use mir.Syntax.{w32}
 use mir.Val.{SFits}
-use Rattle.integers.specs.Order.{eqZ, integers, suc=, pred=, add=, neg=, abs=, fits→, →fits}
+use Rattle.integers.specs.Integers.{eqZ}
+use Rattle.integers.proofs.Order.{integers, suc=, pred=, add=, neg=, abs=, fits→, →fits}
 use Rattle.integers.specs.Distance.{distance}
 use Rattle.predicates.specs.declared.PredicateType.{PredicateType}
 use Rattle.predicates.specs.declared.PredicateType.the-variants.{LowerBound, NotEqual, Equal, UpperBound}
 use Rattle.domains.specs.declared.Bounds.{Bounds}
 use Rattle.domains.specs.Choice.{pick}
+use Rattle.domains.specs.Limits.{first, last}
 use Rattle.domains.specs.Domain.{Domain, has, raised, lowered, acts, lowerAfter, upperAfter, isNotEqual, moved, after}
 use Rattle.domains.specs.Domain.{overflows, prunedBy}
-use Rattle.domains.specs.Tests.{by-cases, picked, clash}
-use Rattle.domains.specs.Stepping.{raised-steps, lowered-steps, not-passed, not-passed-down}
-use Rattle.domains.specs.Membership.{left}
+use Rattle.domains.proofs.Tests.{by-cases, picked, clash}
+use Rattle.domains.proofs.Stepping.{raised-steps, lowered-steps, not-passed, not-passed-down}
+use Rattle.domains.proofs.Membership.{left}
 use Rattle.domains.specs.Promises.{Tight, Fits, FitsLaw}
-use Rattle.domains.specs.Laws.{moved-narrows}
-
--- the first and the last i32
-abbrev pub first : ℤ
-first = negsuc 2147483647
-
-abbrev pub last : ℤ
-last = pos 2147483647
+use Rattle.domains.proofs.Laws.{moved-narrows}
 
 between : (z : ℤ) → first ≤ℤ z → z ≤ℤ last → SFits w32 z
 between z p q = →fits z (omega integers) (omega integers)

@@ -11,20 +11,20 @@ use borrow.Author.Tests.{ltb-true, ltb-false}
 use native.Mathlib.Omega.{arith}
 use mir.Syntax.{w32}
 use mir.Val.{SFits}
-use Rattle.integers.specs.Order.{integers, →fits}
+use Rattle.integers.proofs.Order.{integers, →fits}
 use Rattle.predicates.specs.declared.Predicate.{Predicate}
 use Rattle.predicates.specs.declared.Reason.{Reason}
 use Rattle.domains.specs.declared.Bounds.{Bounds}
-use Rattle.domains.specs.Tests.{clash}
+use Rattle.domains.proofs.Tests.{clash}
 use Rattle.stores.specs.declared.Assignments.{Assignments}
 use Rattle.stores.specs.Made.{Made, Since}
 use Rattle.stores.specs.Store.{bare, recorded, opened}
 use Rattle.stores.specs.Calls.{fresh, isEmpty, missing, listed, posted, entriesAbove, synchronised, synchroniseStore}
-use Rattle.stores.specs.Straight.{Records, Straight, tidy}
-use Rattle.stores.specs.Undo.{back-recorded, back-opened, back-where-opened}
-use Rattle.stores.specs.Steps.{post-records, post-straight, grown-straight, back-straight}
-use Rattle.stores.specs.Lists.{listed-straight}
-use Rattle.stores.specs.Cases.{post-cases, grow-cases, list-cases, open-cases, open-taken, synchronise-cases, synchronise-taken}
+use Rattle.stores.proofs.Straight.{Records, Straight, tidy}
+use Rattle.stores.proofs.Undo.{back-recorded, back-opened, back-where-opened}
+use Rattle.stores.proofs.Steps.{post-records, post-straight, grown-straight, back-straight}
+use Rattle.stores.proofs.Lists.{listed-straight}
+use Rattle.stores.proofs.Cases.{post-cases, grow-cases, list-cases, open-cases, open-taken, synchronise-cases, synchronise-taken}
 
 fresh-straight : Straight fresh
 unfolding fresh bare

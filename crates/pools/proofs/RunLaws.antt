@@ -14,11 +14,12 @@ use mir.Val.{SFits}
 use borrow.Author.Tests.{ltb-true, ltb-false, eqb-true, eqb-false}
 use borrow.Author.Count.{below-more}
 use native.Mathlib.Omega.{arith}
-use Rattle.integers.specs.Order.{plus, minus, eqZ, integers, add=, neg=, abs=, fits→, →fits}
+use Rattle.integers.specs.Integers.{plus, minus, eqZ}
+use Rattle.integers.proofs.Order.{integers, add=, neg=, abs=, fits→, →fits}
 use Rattle.integers.specs.Distance.{distance}
 use Rattle.domains.specs.Choice.{pick}
 use Rattle.domains.specs.Domain.{has, width, raised, lowered}
-use Rattle.domains.specs.Stepping.{raised-is, lowered-is}
+use Rattle.domains.proofs.Stepping.{raised-is, lowered-is}
 use Rattle.pools.specs.Runs.{shifted, Place, Marked, FirstClear, Steps}
 
 -- the greater of two numbers lies their distance above the smaller

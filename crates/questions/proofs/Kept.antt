@@ -7,19 +7,19 @@ use lib.IntN.{ℤ}
 use lib.Dec.{leb}
 use lib.Signed.{leZ, ltZ, _≤ℤ_}
 use borrow.Author.Tests.{le-leb, lt-leb, leb-false}
-use Rattle.integers.specs.Order.{integers}
+use Rattle.integers.proofs.Order.{integers}
 use Rattle.predicates.specs.declared.PredicateType.{PredicateType}
 use Rattle.domains.specs.Domain.{Domain, member, emptied}
-use Rattle.domains.specs.Tests.{by-cases, clash}
-use Rattle.domains.specs.Membership.{left}
+use Rattle.domains.proofs.Tests.{by-cases, clash}
+use Rattle.domains.proofs.Membership.{left}
 use Rattle.domains.specs.Promises.{Tight}
-use Rattle.domains.specs.Laws.{empty-law}
+use Rattle.domains.proofs.Laws.{empty-law}
 use Rattle.domains.specs.Truth.{Truth, truthOf}
 use Rattle.domains.specs.Truth.Truth.{holds, fails, open′}
-use Rattle.domains.specs.TruthLaws.{truth-law, emptied-truth-law}
+use Rattle.domains.proofs.TruthLaws.{truth-law, emptied-truth-law}
 use Rattle.stores.specs.Store.{domainOf}
 use Rattle.stores.specs.Positions.{domainAt}
-use Rattle.stores.specs.Kept as Stores
+use Rattle.stores.proofs.Kept as Stores
 use Rattle.questions.specs.declared.answers.TruthAnswer.the-variants as Told
 use Rattle.questions.specs.Answers.{yesNo, inWords, lowest, highest, contains, isOne, assigned, assignedValue, truth}
 use Rattle.questions.specs.Promises.{remainsAt, remainsNow, Some, None, Only, All, Said, About, PositionLaw, NowLaw, PastLaw, RefusalLaw}

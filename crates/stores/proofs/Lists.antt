@@ -10,21 +10,22 @@ use lib.Signed.{ltZ, _≤ℤ_}
 use native.Mathlib.Omega.{arith}
 use mir.Syntax.{w32}
 use mir.Val.{SFits}
-use Rattle.integers.specs.Order.{eqZ, integers, suc=, fits→, →fits}
+use Rattle.integers.specs.Integers.{eqZ}
+use Rattle.integers.proofs.Order.{integers, suc=, fits→, →fits}
 use Rattle.predicates.specs.declared.PredicateType.the-variants.{NotEqual}
 use Rattle.predicates.specs.declared.Reason.the-variants.{None}
 use Rattle.domains.specs.declared.Bounds.{Bounds}
 use Rattle.domains.specs.Choice.{pick}
 use Rattle.domains.specs.Domain.{Domain, has, member, width, overflows}
-use Rattle.domains.specs.Membership.{Left, left, is-left}
-use Rattle.domains.specs.Tests.{clash}
+use Rattle.domains.proofs.Membership.{Left, left, is-left}
+use Rattle.domains.proofs.Tests.{clash}
 use Rattle.stores.specs.declared.Assignments.{Assignments}
 use Rattle.stores.specs.Made.{AreI32}
 use Rattle.stores.specs.Store.{domainOf, recorded, allocated}
 use Rattle.stores.specs.Calls.{notEqual, smallest, largest, spanOf, unlisted, missing, grown, posted, removedAll, listed}
-use Rattle.stores.specs.Straight.{Straight, tidy}
-use Rattle.stores.specs.Meaning.{meant, recorded-own}
-use Rattle.stores.specs.Steps.{fits-of, post-records, post-straight, grown-straight, grown-domain}
+use Rattle.stores.proofs.Straight.{Straight, tidy}
+use Rattle.stores.proofs.Meaning.{meant, recorded-own}
+use Rattle.stores.proofs.Steps.{fits-of, post-records, post-straight, grown-straight, grown-domain}
 
 -- ---- the span
 

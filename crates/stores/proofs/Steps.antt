@@ -13,7 +13,8 @@ use borrow.Author.Tests.{ltb-true, ltb-false, not-false}
 use native.Mathlib.Omega.{arith}
 use mir.Syntax.{w32}
 use mir.Val.{SFits}
-use Rattle.integers.specs.Order.{eqZ, integers}
+use Rattle.integers.specs.Integers.{eqZ}
+use Rattle.integers.proofs.Order.{integers}
 use Rattle.predicates.specs.declared.Predicate.{Predicate}
 use Rattle.predicates.specs.declared.Reason.{Reason}
 use Rattle.predicates.specs.declared.Reason.the-variants.{None}
@@ -21,11 +22,11 @@ use Rattle.domains.specs.declared.Bounds.{Bounds}
 use Rattle.domains.specs.Choice.{pick}
 use Rattle.domains.specs.Domain.{Domain, isNotEqual, acts, overflows, moved, after}
 use Rattle.domains.specs.Promises.{Tight, Fits}
-use Rattle.domains.specs.Membership.{is-left}
-use Rattle.domains.specs.Laws.{after-idle, after-moved, tight-law}
-use Rattle.domains.specs.Fits.{fits-law}
+use Rattle.domains.proofs.Membership.{is-left}
+use Rattle.domains.proofs.Laws.{after-idle, after-moved, tight-law}
+use Rattle.domains.proofs.Fits.{fits-law}
 use Rattle.pools.specs.Chain.{chainOf, valuesOf}
-use Rattle.pools.specs.ChainLaws.{no-link}
+use Rattle.pools.proofs.ChainLaws.{no-link}
 use Rattle.stores.specs.declared.Entry.{Entry}
 use Rattle.stores.specs.declared.Variable.{Variable}
 use Rattle.stores.specs.declared.Assignments.{Assignments}
@@ -33,9 +34,9 @@ use Rattle.stores.specs.Made.{AreI32}
 use Rattle.stores.specs.Store.{noEntry, noVariable, bare, variableOf, domainOf, differs, recorded, allocated, marked, opened}
 use Rattle.stores.specs.Calls.{atLeast, atMost, grown, domainBefore, boundsAfter, posted, synchronised}
 use Rattle.stores.specs.Replay.{on, replayed}
-use Rattle.stores.specs.Straight.{domainWith, Records, Straight, tidy}
-use Rattle.stores.specs.Undo.{back-recorded, back-opened, back-where-opened}
-use Rattle.stores.specs.Meaning.{meant, recorded-own}
+use Rattle.stores.proofs.Straight.{domainWith, Records, Straight, tidy}
+use Rattle.stores.proofs.Undo.{back-recorded, back-opened, back-where-opened}
+use Rattle.stores.proofs.Meaning.{meant, recorded-own}
 
 -- ---- the domains of a straight store
 

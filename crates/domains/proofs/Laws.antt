@@ -7,17 +7,18 @@ use mathlib.Core.List.{_∷_}
 use borrow.Author.Tests.{not-true}
 use lib.IntN.{ℤ, sucℤ, predℤ}
 use lib.Signed.{ltZ, _≤ℤ_, _<ℤ_}
-use Rattle.integers.specs.Order.{eqZ, integers, suc=, pred=}
+use Rattle.integers.specs.Integers.{eqZ}
+use Rattle.integers.proofs.Order.{integers, suc=, pred=}
 use Rattle.predicates.specs.declared.PredicateType.{PredicateType}
 use Rattle.predicates.specs.declared.PredicateType.the-variants.{LowerBound, NotEqual, Equal, UpperBound}
 use Rattle.domains.specs.Choice.{pick}
 use Rattle.domains.specs.Domain.{Domain, satisfies, has, member, emptied, acts, lowerAfter, upperAfter, isNotEqual, moved, after}
-use Rattle.domains.specs.Tests.{by-cases, picked, clash, both, neither, same-test}
-use Rattle.domains.specs.Stepping.{raised-steps, lowered-steps}
-use Rattle.domains.specs.Membership.{Left, left, is-left}
+use Rattle.domains.proofs.Tests.{by-cases, picked, clash, both, neither, same-test}
+use Rattle.domains.proofs.Stepping.{raised-steps, lowered-steps}
+use Rattle.domains.proofs.Membership.{Left, left, is-left}
 use Rattle.domains.specs.Promises.{SetLaw, TightLaw, EmptyLaw, ShrinkLaw, EmptiedLaw}
-use Rattle.domains.specs.Narrowing.{Narrows, within, no-change, and-then}
-use Rattle.domains.specs.Narrowing.{raised-narrows, lowered-narrows, without-narrows, raised-leaves, lowered-leaves}
+use Rattle.domains.proofs.Narrowing.{Narrows, within, no-change, and-then}
+use Rattle.domains.proofs.Narrowing.{raised-narrows, lowered-narrows, without-narrows, raised-leaves, lowered-leaves}
 
 -- the domain after a post, by whether it does something
 pub after-idle : (k : PredicateType) (v : ℤ) (d : Domain) → acts k v d ≡ false → after k v d ≡ d

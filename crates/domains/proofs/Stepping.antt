@@ -6,9 +6,10 @@ use mathlib.Core.Bool.{Bool, true, false, _&&_, _||_}
 use mathlib.Core.List.{List, [], _∷_, map}
 use lib.IntN.{ℤ, sucℤ, negℤ, negℤ-negℤ}
 use lib.Signed.{leZ, ltZ, _≤ℤ_, _<ℤ_}
-use Rattle.integers.specs.Order.{eqZ, integers, suc=, neg=}
+use Rattle.integers.specs.Integers.{eqZ}
+use Rattle.integers.proofs.Order.{integers, suc=, neg=}
 use Rattle.domains.specs.Domain.{has, width, stepUp, raised, lowered}
-use Rattle.domains.specs.Tests.{by-cases, clash, both, same-test}
+use Rattle.domains.proofs.Tests.{by-cases, clash, both, same-test}
 
 -- from v up to r, over holes that are at most u
 pub record Stepped (hs : List ℤ) (u v r : ℤ) : Type 0 where

@@ -10,13 +10,13 @@ use lib.Dec.{ltb, leb}
 use lib.Signed.{ltZ, _≤ℤ_}
 use borrow.Author.Tests.{ltb-true, ltb-false, leb-true, leb-false, lt-ltb, le-ltb, le-leb, lt-leb}
 use native.Mathlib.Omega.{arith}
-use Rattle.integers.specs.Order.{integers}
+use Rattle.integers.proofs.Order.{integers}
 use Rattle.predicates.specs.declared.Predicate.{Predicate}
 use Rattle.predicates.specs.declared.Reason.{Reason}
 use Rattle.domains.specs.declared.Bounds.{Bounds}
 use Rattle.domains.specs.Choice.{pick}
 use Rattle.domains.specs.Domain.{overflows, emptied, moved, after}
-use Rattle.domains.specs.Laws.{after-idle, after-moved}
+use Rattle.domains.proofs.Laws.{after-idle, after-moved}
 use Rattle.stores.specs.declared.Refusal.the-variants.{NoVariable, NotRoot, BadDomain, TooManyVariables, TrailFull, StepOverflow, Empty, TooManyCheckpoints, NotLower, NoRoom}
 use Rattle.stores.specs.declared.GrowAnswer.the-variants as Grow
 use Rattle.stores.specs.declared.PostAnswer.the-variants as Post

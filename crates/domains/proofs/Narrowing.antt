@@ -5,12 +5,13 @@ use mathlib.Core.Bool.{Bool, true, false}
 use mathlib.Core.List.{_∷_}
 use lib.IntN.{ℤ}
 use lib.Signed.{_≤ℤ_}
-use Rattle.integers.specs.Order.{eqZ, integers}
+use Rattle.integers.specs.Integers.{eqZ}
+use Rattle.integers.proofs.Order.{integers}
 use Rattle.domains.specs.Choice.{pick}
 use Rattle.domains.specs.Domain.{Domain, has, raised, lowered}
-use Rattle.domains.specs.Tests.{neither}
-use Rattle.domains.specs.Stepping.{raised-steps, lowered-steps, not-passed, not-passed-down}
-use Rattle.domains.specs.Membership.{Left, left, is-left}
+use Rattle.domains.proofs.Tests.{neither}
+use Rattle.domains.proofs.Stepping.{raised-steps, lowered-steps, not-passed, not-passed-down}
+use Rattle.domains.proofs.Membership.{Left, left, is-left}
 use Rattle.domains.specs.Promises.{Tight}
 
 -- where the test holds, the lower bound becomes v and steps on; the upper bound does; v is stored as a hole

@@ -1,6 +1,5 @@
 -- The order of integers, in a form that omega reads: an integer z is plus z − minus z, so an order of integers is a linear order of naturals.
 -- A proof cites the ruleset `integers`, as `omega (integers, ..)`, and `suc=`, `pred=` or `add=` for a step by one or a sum that it names.
--- Tools: a reader of the promises need believe nothing here but `eqZ`, the test of equality. Assumes nothing.
 use Prim.Native.Nat.{ℕ, zero, suc, _+_, _-_, _≤_, _<_}
 use mathlib.Core.Path.{_≡_, refl, sym, ap, subst, _∙_}
 use mathlib.Core.Logic.{_≢_}
@@ -13,22 +12,7 @@ use mir.Syntax.{w32}
 use mir.Val.{SFits, ofZ, toZ}
 use mir.Facts.{toZ-ofZ}
 use native.Mathlib.Omega.{arith}
-
--- whether two integers are the same
-abbrev pub eqZ : ℤ → ℤ → Bool
-eqZ (pos a) (pos b) = eqb a b
-eqZ (pos a) (negsuc b) = false
-eqZ (negsuc a) (pos b) = false
-eqZ (negsuc a) (negsuc b) = eqb a b
-
--- the part of an integer above zero, and the part below
-abbrev pub plus : ℤ → ℕ
-plus (pos n) = n
-plus (negsuc n) = 0
-
-abbrev pub minus : ℤ → ℕ
-minus (pos n) = 0
-minus (negsuc n) = suc n
+use Rattle.integers.specs.Integers.{eqZ, plus, minus}
 
 -- a test that holds, as a fact of naturals
 le→ : (a b : ℤ) → T (leZ a b) → plus a + minus b ≤ plus b + minus a

@@ -17,11 +17,11 @@ use Rattle.predicates.specs.declared.Reason.{Reason}
 use Rattle.domains.specs.declared.Bounds.{Bounds}
 use Rattle.domains.specs.Choice.{pick}
 use Rattle.domains.specs.Domain.{Domain, isNotEqual, after, prunedBy}
-use Rattle.domains.specs.Fits.{pruned-fits}
+use Rattle.domains.proofs.Fits.{pruned-fits}
 use Rattle.pools.specs.declared.Update.{Update}
 use Rattle.pools.specs.declared.Pool.{Pool}
 use Rattle.pools.specs.Chain.{noUpdates, chainOf, valuesOf, upTo}
-use Rattle.pools.specs.ChainLaws.{no-link, chain-pushed-own, chain-pushed-other}
+use Rattle.pools.proofs.ChainLaws.{no-link, chain-pushed-own, chain-pushed-other}
 use Rattle.stores.specs.declared.Entry.{Entry}
 use Rattle.stores.specs.declared.Variable.{Variable}
 use Rattle.stores.specs.declared.Assignments.{Assignments}
@@ -29,7 +29,7 @@ use Rattle.stores.specs.Made.{AreI32}
 use Rattle.stores.specs.Store.{noEntry, noVariable, bare, variableOf, lowersOf, uppersOf, holesOf, domainOf, entryOf, pushIf, linkIf, recorded, allocated, marked, opened}
 use Rattle.stores.specs.Replay.{on, replayed, boundsOf, prunedUpTo}
 use Rattle.stores.specs.Positions.{valueAt, domainAt}
-use Rattle.stores.specs.Straight.{domainWith, Records, Straight, Tidy, TidyPool, tidy}
+use Rattle.stores.proofs.Straight.{domainWith, Records, Straight, Tidy, TidyPool, tidy}
 
 -- what holds of every straight store: the bounds are i32, a variable starts with some value, the domain now and the domain that the store
 -- has for any position are the trail's, the count is the sum over the entries, and each adds less than 2^33

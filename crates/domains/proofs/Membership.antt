@@ -4,9 +4,9 @@ use mathlib.Core.Bool.{true, false}
 use borrow.Author.Tests.{not-true}
 use lib.IntN.{ℤ}
 use lib.Signed.{leZ, _≤ℤ_}
-use Rattle.integers.specs.Order.{integers}
+use Rattle.integers.proofs.Order.{integers}
 use Rattle.domains.specs.Domain.{Domain, has, member}
-use Rattle.domains.specs.Tests.{both}
+use Rattle.domains.proofs.Tests.{both}
 
 -- x is left
 pub record Left (d : Domain) (x : ℤ) : Type 0 where

@@ -5,14 +5,15 @@ use mathlib.Core.Bool.{Bool, true, false, not}
 use borrow.Author.Tests.{not-true, not-false}
 use lib.IntN.{ℤ}
 use lib.Signed.{leZ, ltZ}
-use Rattle.integers.specs.Order.{eqZ, integers}
+use Rattle.integers.specs.Integers.{eqZ}
+use Rattle.integers.proofs.Order.{integers}
 use Rattle.predicates.specs.declared.PredicateType.{PredicateType}
 use Rattle.predicates.specs.declared.PredicateType.the-variants.{LowerBound, NotEqual, Equal, UpperBound}
 use Rattle.domains.specs.Domain.{Domain, satisfies, member, emptied}
-use Rattle.domains.specs.Tests.{by-cases, picked, clash}
-use Rattle.domains.specs.Membership.{left}
+use Rattle.domains.proofs.Tests.{by-cases, picked, clash}
+use Rattle.domains.proofs.Membership.{left}
 use Rattle.domains.specs.Promises.{Tight}
-use Rattle.domains.specs.Laws.{idle-only, emptied-law}
+use Rattle.domains.proofs.Laws.{idle-only, emptied-law}
 use Rattle.domains.specs.Truth.{Truth, truthOf, All, TruthLaw, EmptiedTruthLaw}
 use Rattle.domains.specs.Truth.Truth.{holds, fails, open′}
 

@@ -20,7 +20,7 @@ use Rattle.stores.specs.declared.Variable.{Variable}
 use Rattle.stores.specs.declared.Assignments.{Assignments}
 use Rattle.stores.specs.Store.{noEntry, noVariable, variableOf, pushIf, linkIf, popIf, backIf, differs, recorded, undoneBy, undone, undoneAll, newest, changedBy, opened, withCheckpoints, cut}
 use Rattle.stores.specs.Calls.{synchronised}
-use Rattle.stores.specs.Straight.{Records, Tidy, TidyPool}
+use Rattle.stores.proofs.Straight.{Records, Tidy, TidyPool}
 
 -- a place that was blank, written and made blank again
 restored : {A : Type 0} (l : List A) (i : ℕ) (a d : A) → getD l i d ≡ d → set (set l i a) i d ≡ l

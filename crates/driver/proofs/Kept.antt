@@ -13,8 +13,8 @@ use Rattle.stores.specs.declared.Assignments.{Assignments}
 use Rattle.stores.specs.declared.Refusal.the-variants.{NotLower, NoRoom}
 use Rattle.stores.specs.declared.SynchroniseAnswer.the-variants.{Unfixed, Refused}
 use Rattle.stores.specs.Calls.{entriesAbove, unfixed, synchroniseAnswer}
-use Rattle.stores.specs.Straight.{tidy}
-use Rattle.stores.specs.History.{straight}
+use Rattle.stores.proofs.Straight.{tidy}
+use Rattle.stores.proofs.History.{straight}
 use Rattle.commands.specs.Values.{valuesOf}
 use Rattle.driver.specs.Lines.{commandStore, commandReply, commandPairs, commandText, lineStore, lineText}
 use Rattle.driver.specs.Runs.{runStore, runText}

@@ -14,7 +14,8 @@ use borrow.Author.Tests.{ltb-true, ltb-false, leb-true, leb-false, ne-eqb}
 use native.Mathlib.Omega.{arith}
 use mir.Syntax.{w32}
 use mir.Val.{SFits}
-use Rattle.integers.specs.Order.{eqZ, integers, →eqT}
+use Rattle.integers.specs.Integers.{eqZ}
+use Rattle.integers.proofs.Order.{integers, →eqT}
 use Rattle.predicates.specs.declared.Predicate.{Predicate}
 use Rattle.predicates.specs.declared.PredicateType.{PredicateType}
 use Rattle.predicates.specs.declared.PredicateType.the-variants.{LowerBound, NotEqual, Equal, UpperBound}
@@ -23,10 +24,10 @@ use Rattle.predicates.specs.declared.Reason.the-variants.{None}
 use Rattle.domains.specs.declared.Bounds.{Bounds}
 use Rattle.domains.specs.Choice.{pick}
 use Rattle.domains.specs.Domain.{Domain, satisfies, member, emptied, overflows, acts, after, moved}
-use Rattle.domains.specs.Tests.{by-cases, clash, both}
-use Rattle.domains.specs.Membership.{left}
+use Rattle.domains.proofs.Tests.{by-cases, clash, both}
+use Rattle.domains.proofs.Membership.{left}
 use Rattle.domains.specs.Promises.{Tight}
-use Rattle.domains.specs.Laws as Domains
+use Rattle.domains.proofs.Laws as Domains
 use Rattle.stores.specs.declared.Entry.{Entry}
 use Rattle.stores.specs.declared.Refusal.{Refusal}
 use Rattle.stores.specs.declared.Refusal.the-variants.{NoVariable, NotRoot, BadDomain, TooManyVariables, TrailFull, StepOverflow, Empty, TooManyCheckpoints, NotLower, NoRoom, NoSuchEntry, NoDecision, NoReason}
@@ -44,12 +45,12 @@ use Rattle.stores.specs.Calls.{growGrounds, growAnswer, growStore, grown
 use Rattle.stores.specs.Made.{Made, Since}
 use Rattle.stores.specs.Replay.{on, remains, replayed}
 use Rattle.stores.specs.Promises.{RefusalLaw, UntouchedLaw, RoomLaw, SameLaw, SetLaw, BoundsLaw, Lost, SomeLeft, AnswerLaw, ReplayLaw, PositionLaw, CountLaw, BackLaw, OpenedLaw}
-use Rattle.stores.specs.Straight.{tidy}
-use Rattle.stores.specs.Meaning.{meant, recorded-own, recorded-other}
-use Rattle.stores.specs.Steps.{replayed-tight, tight-of, post-records}
-use Rattle.stores.specs.Lists.{removed-root}
-use Rattle.stores.specs.Cases.{grow-cases, list-cases, post-absent, post-idle, post-full, post-overflows, post-taken, post-cases, open-taken, open-many, synchronise-cases}
-use Rattle.stores.specs.History.{straight, back-law}
+use Rattle.stores.proofs.Straight.{tidy}
+use Rattle.stores.proofs.Meaning.{meant, recorded-own, recorded-other}
+use Rattle.stores.proofs.Steps.{replayed-tight, tight-of, post-records}
+use Rattle.stores.proofs.Lists.{removed-root}
+use Rattle.stores.proofs.Cases.{grow-cases, list-cases, post-absent, post-idle, post-full, post-overflows, post-taken, post-cases, open-taken, open-many, synchronise-cases}
+use Rattle.stores.proofs.History.{straight, back-law}
 
 -- ---- refusals
 

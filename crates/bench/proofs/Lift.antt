@@ -13,7 +13,8 @@ use borrow.Author.Tests.{leb-true, leb-false}
 use native.Mathlib.Omega.{arith}
 use mir.Syntax.{w32}
 use mir.Val.{SFits}
-use Rattle.integers.specs.Order.{eqZ, integers, add=, neg=, abs=, fits→, →fits}
+use Rattle.integers.specs.Integers.{eqZ}
+use Rattle.integers.proofs.Order.{integers, add=, neg=, abs=, fits→, →fits}
 use Rattle.integers.specs.Distance.{distance}
 use Rattle.predicates.specs.declared.PredicateType.{PredicateType}
 use Rattle.predicates.specs.declared.PredicateType.the-variants.{LowerBound, NotEqual, UpperBound}
@@ -21,9 +22,9 @@ use Rattle.predicates.specs.declared.Reason.the-variants.{None}
 use Rattle.domains.specs.declared.Bounds.{Bounds}
 use Rattle.domains.specs.Choice.{pick}
 use Rattle.domains.specs.Domain.{isNotEqual, has, member, width, acts, overflows, moved, prunedBy}
-use Rattle.domains.specs.Tests.{picked, both, clash}
-use Rattle.domains.specs.Fits.{first, last}
-use Rattle.domains.specs.Membership.{left, is-left}
+use Rattle.domains.proofs.Tests.{picked, both, clash}
+use Rattle.domains.specs.Limits.{first, last}
+use Rattle.domains.proofs.Membership.{left, is-left}
 use Rattle.stores.specs.declared.GrowAnswer.the-variants.{Grown}
 use Rattle.stores.specs.declared.PostAnswer.{PostAnswer}
 use Rattle.stores.specs.declared.Variable.{Variable}
@@ -32,14 +33,14 @@ use Rattle.pools.specs.Chain.{chainOf, valuesOf}
 use Rattle.stores.specs.Store.{noVariable, bare, variableOf, domainOf, recorded, allocated, marked}
 use Rattle.stores.specs.Calls.{atLeast, notEqual, fresh, spanOf, unlisted, missing, removedAll, listed, grown, postAnswer, postStore, posted}
 use Rattle.stores.specs.Made.{AreI32, Made}
-use Rattle.stores.specs.Straight.{Straight, tidy, at-set}
-use Rattle.stores.specs.Meaning.{meant, recorded-own}
-use Rattle.stores.specs.Steps.{fits-of, post-records, grown-straight, grown-domain}
-use Rattle.stores.specs.Cases.{grow-taken, list-taken, post-idle, post-full, post-overflows, post-taken, post-cases}
-use Rattle.stores.specs.Lists.{Removable, listed-stays, gone-room, gone-inside, gone-low, gone-high, missing-goes, removed-straight, span-i32, span-proper, smallest-listed, largest-listed}
-use Rattle.stores.specs.History.{straight}
+use Rattle.stores.proofs.Straight.{Straight, tidy, at-set}
+use Rattle.stores.proofs.Meaning.{meant, recorded-own}
+use Rattle.stores.proofs.Steps.{fits-of, post-records, grown-straight, grown-domain}
+use Rattle.stores.proofs.Cases.{grow-taken, list-taken, post-idle, post-full, post-overflows, post-taken, post-cases}
+use Rattle.stores.proofs.Lists.{Removable, listed-stays, gone-room, gone-inside, gone-low, gone-high, missing-goes, removed-straight, span-i32, span-proper, smallest-listed, largest-listed}
+use Rattle.stores.proofs.History.{straight}
 use Rattle.bench.specs.Seen.{Seen, Start, Post, Line, begun, looked, created, line, on, shown, ran}
-use Rattle.bench.specs.Run.{denseAfter, without, remarked, listAfter, begins, entered, comes, run}
+use Rattle.bench.proofs.Run.{denseAfter, without, remarked, listAfter, begins, entered, comes, run}
 
 -- ---- i32, as a test
 
