@@ -8,7 +8,7 @@ use native.Mathlib.Omega.{arith}
 use Rattle.integers.specs.Distance.{distance}
 use Rattle.domains.specs.Domain.{stepUp, raised, lowered, moved, prunedBy}
 use Rattle.domains.proofs.Tests.{both}
-use Rattle.stores.specs.Calls.{unlisted}
+use Rattle.stories.specs.Calls.{unlisted}
 use Rattle.bench.specs.Seen.{Seen, Post, shown, begun, looked}
 use Rattle.bench.proofs.Run.{begins, run}
 use Rattle.bench.proofs.Lift.{isI32, every, sound, run-law, start-law}

@@ -25,13 +25,14 @@ use Rattle.domains.specs.Domain.{isNotEqual, has, member, width, acts, overflow
 use Rattle.domains.proofs.Tests.{picked, both, clash}
 use Rattle.domains.specs.Limits.{first, last}
 use Rattle.domains.proofs.Membership.{left, is-left}
-use Rattle.stores.specs.declared.GrowAnswer.the-variants.{Grown}
-use Rattle.stores.specs.declared.PostAnswer.{PostAnswer}
+use Rattle.stories.specs.declared.GrowAnswer.the-variants.{Grown}
+use Rattle.stories.specs.declared.PostAnswer.{PostAnswer}
 use Rattle.stores.specs.declared.Variable.{Variable}
 use Rattle.stores.specs.declared.Assignments.{Assignments}
 use Rattle.pools.specs.Chain.{chainOf, valuesOf}
 use Rattle.stores.specs.Store.{noVariable, bare, variableOf, domainOf, recorded, allocated, marked}
-use Rattle.stores.specs.Calls.{atLeast, notEqual, fresh, spanOf, unlisted, missing, removedAll, listed, grown, postAnswer, postStore, posted}
+use Rattle.stories.specs.Calls.{atLeast, notEqual, spanOf, unlisted, missing}
+use Rattle.stores.specs.Calls.{fresh, removedAll, listed, grown, postAnswer, postStore, posted}
 use Rattle.stores.specs.Made.{AreI32, Made}
 use Rattle.stores.proofs.Straight.{Straight, tidy, at-set}
 use Rattle.stores.proofs.Meaning.{meant, recorded-own}

@@ -7,9 +7,9 @@ use lib.Dec.{leb}
 use Rattle.domains.specs.declared.Bounds.{Bounds}
 use Rattle.domains.specs.Choice.{pick}
 use Rattle.domains.specs.Domain.{Domain, emptied, acts, overflows, moved, prunedBy}
-use Rattle.stores.specs.declared.Refusal.the-variants.{TrailFull, StepOverflow, Empty}
-use Rattle.stores.specs.declared.PostAnswer.the-variants.{Changed, Unchanged, Refused}
-use Rattle.stores.specs.Calls.{spanOf, missing}
+use Rattle.stories.specs.declared.Refusal.the-variants.{TrailFull, StepOverflow, Empty}
+use Rattle.stories.specs.declared.PostAnswer.the-variants.{Changed, Unchanged, Refused}
+use Rattle.stories.specs.Calls.{spanOf, missing}
 use Rattle.bench.specs.Seen.{Seen, Start, Post, Line, line}
 
 -- ---- creating

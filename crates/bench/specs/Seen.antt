@@ -8,11 +8,11 @@ use Rattle.predicates.specs.declared.PredicateType.{PredicateType}
 use Rattle.predicates.specs.declared.Reason.the-variants.{None}
 use Rattle.domains.specs.declared.Bounds.{Bounds}
 use Rattle.domains.specs.Domain.{Domain}
-use Rattle.stores.specs.declared.GrowAnswer.{GrowAnswer}
-use Rattle.stores.specs.declared.GrowAnswer.the-variants.{Grown}
-use Rattle.stores.specs.declared.PostAnswer.{PostAnswer}
+use Rattle.stories.specs.declared.GrowAnswer.{GrowAnswer}
+use Rattle.stories.specs.declared.GrowAnswer.the-variants.{Grown}
+use Rattle.stories.specs.declared.PostAnswer.{PostAnswer}
 use Rattle.stores.specs.declared.Assignments.{Assignments}
-use Rattle.stores.specs.Words.{Told, toldOf}
+use Rattle.stories.specs.Words.{Told, toldOf}
 use Rattle.stores.specs.Store.{variableOf, domainOf}
 use Rattle.stores.specs.Calls as Calls
 

@@ -7,9 +7,9 @@ use mathlib.Core.List.{List, [], _∷_, map}
 use lib.IntN.{ℤ, pos}
 use Rattle.predicates.specs.declared.PredicateType.the-variants.{LowerBound, NotEqual, Equal}
 use Rattle.domains.specs.Limits.{first, last}
-use Rattle.stores.specs.declared.GrowAnswer.the-variants.{Grown}
-use Rattle.stores.specs.Words.{Told}
-use Rattle.stores.specs.Words.Told.{refused}
+use Rattle.stories.specs.declared.GrowAnswer.the-variants.{Grown}
+use Rattle.stories.specs.Words.{Told}
+use Rattle.stories.specs.Words.Told.{refused}
 use Rattle.bench.specs.Seen.{Seen, Start, fresh, dense, list, Post, changed, unchanged, Line, shown, begun, looked, created, ran}
 
 -- ---- a check

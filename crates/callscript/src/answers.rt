@@ -2,13 +2,13 @@
 use crate::reading::shorter;
 use predicates::PredicateType;
 use predicates::Reason;
-use stores::Entry;
-use stores::EntryAnswer;
-use stores::GrowAnswer;
-use stores::OpenAnswer;
-use stores::PostAnswer;
-use stores::Refusal;
-use stores::SynchroniseAnswer;
+use stories::Entry;
+use stories::EntryAnswer;
+use stories::GrowAnswer;
+use stories::OpenAnswer;
+use stories::PostAnswer;
+use stories::Refusal;
+use stories::SynchroniseAnswer;
 
 // The refusal of a line that cannot be read.
 const BAD_LINE: u64 = 14;

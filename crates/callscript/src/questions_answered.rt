@@ -5,11 +5,6 @@ use crate::answers::put_natural;
 use crate::answers::put_ok;
 use crate::answers::put_refusal;
 use crate::questions_asked::Question;
-use questions::BoundAnswer;
-use questions::LeftAnswer;
-use questions::TruthAnswer;
-use questions::ValueAnswer;
-use questions::YesNo;
 use questions::evaluate_predicate;
 use questions::evaluate_predicate_at_trail_position;
 use questions::get_assigned_value;
@@ -28,6 +23,11 @@ use questions::is_value_in_domain;
 use questions::is_value_in_domain_at_trail_position;
 use questions::left;
 use stores::Assignments;
+use stories::BoundAnswer;
+use stories::LeftAnswer;
+use stories::TruthAnswer;
+use stories::ValueAnswer;
+use stories::YesNo;
 ghost use Rattle.stores.specs.Made.{Made};
 
 // What the store answered.

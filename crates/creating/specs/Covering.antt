@@ -12,7 +12,7 @@ use Rattle.integers.specs.Integers.{eqZ}
 use Rattle.integers.proofs.Order.{integers, suc=}
 use Rattle.domains.specs.Choice.{pick}
 use Rattle.domains.specs.Domain.{has}
-use Rattle.stores.specs.Calls.{unlisted}
+use Rattle.stories.specs.Calls.{unlisted}
 
 -- a value below the range makes no difference to it
 same-above : (a : ℤ) (vs : List ℤ) (n : ℕ) (v : ℤ) → a <ℤ v → unlisted (a ∷ vs) n v ≡ unlisted vs n v

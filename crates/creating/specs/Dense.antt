@@ -19,7 +19,8 @@ use Rattle.pools.specs.Chain.{pushed}
 use Rattle.stores.specs.declared.Variable.{Variable}
 use Rattle.stores.specs.declared.Assignments.{Assignments}
 use Rattle.stores.specs.Store.{noVariable, entered, pushIf, recorded, allocated}
-use Rattle.stores.specs.Calls.{atLeast, atMost, grown}
+use Rattle.stories.specs.Calls.{atLeast, atMost}
+use Rattle.stores.specs.Calls.{grown}
 use Rattle.creating.specs.Parts.{withoutReason}
 
 -- a variable just laid down, with links to its bounds' updates

@@ -3,7 +3,7 @@ use lib.IntN.{ℤ}
 use Rattle.predicates.specs.declared.Predicate.{Predicate}
 use Rattle.predicates.specs.declared.Reason.the-variants.{None}
 use Rattle.domains.specs.declared.Bounds.{Bounds}
-use Rattle.stores.specs.declared.Entry.{Entry}
+use Rattle.stories.specs.declared.Entry.{Entry}
 
 -- from a to b
 abbrev pub between : ℤ → ℤ → Bounds

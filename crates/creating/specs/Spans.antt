@@ -10,7 +10,7 @@ use native.Mathlib.Omega.{arith}
 use Rattle.integers.proofs.Order.{integers}
 use Rattle.domains.specs.Choice.{pick}
 use Rattle.domains.specs.Domain.{has}
-use Rattle.stores.specs.Calls.{smallest, largest, spanOf, isEmpty}
+use Rattle.stories.specs.Calls.{smallest, largest, spanOf, isEmpty}
 use Rattle.stores.proofs.Lists.{smallest-listed, largest-listed}
 use Rattle.creating.specs.Parts.{between}
 

@@ -15,13 +15,14 @@ use Rattle.predicates.specs.declared.DomainId.{DomainId}
 use Rattle.domains.specs.declared.Bounds.{Bounds}
 use Rattle.domains.specs.Choice.{pick}
 use Rattle.domains.proofs.Tests.{by-cases}
-use Rattle.stores.specs.declared.Refusal.{Refusal}
-use Rattle.stores.specs.declared.GrowAnswer.{GrowAnswer}
-use Rattle.stores.specs.declared.GrowAnswer.the-variants as Grow
+use Rattle.stories.specs.declared.Refusal.{Refusal}
+use Rattle.stories.specs.declared.GrowAnswer.{GrowAnswer}
+use Rattle.stories.specs.declared.GrowAnswer.the-variants as Grow
 use Rattle.stores.specs.declared.Variable.{Variable}
 use Rattle.stores.specs.declared.Assignments.{Assignments}
 use Rattle.stores.specs.Store.{noVariable, recorded, allocated, marked}
-use Rattle.stores.specs.Calls.{growAnswer, growStore, grows, grown, spanOf, missing, listAnswer, listStore, listed}
+use Rattle.stores.specs.Calls.{growAnswer, growStore, grows, grown, listAnswer, listStore, listed}
+use Rattle.stories.specs.Calls.{spanOf, missing}
 use Rattle.stores.proofs.Straight.{Straight, tidy}
 use Rattle.stores.proofs.Meaning.{meant}
 use Rattle.stores.proofs.Cases.{grow-above, grow-many, grow-full, grow-taken, list-above, list-many, list-full, list-taken}

@@ -19,7 +19,8 @@ use Rattle.domains.specs.Domain.{has, width, prunedBy}
 use Rattle.stores.specs.declared.Variable.{Variable}
 use Rattle.stores.specs.declared.Assignments.{Assignments}
 use Rattle.stores.specs.Store.{noVariable, variableOf, domainOf, entered, pushIf, recorded}
-use Rattle.stores.specs.Calls.{notEqual, posted, unlisted, missing, spanOf, removedAll}
+use Rattle.stories.specs.Calls.{notEqual, unlisted, missing, spanOf}
+use Rattle.stores.specs.Calls.{posted, removedAll}
 use Rattle.creating.specs.declared.Removed.{Removed}
 use Rattle.creating.specs.Parts.{withoutReason}
 use Rattle.creating.specs.Dense.{no-distance}

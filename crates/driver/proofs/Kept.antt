@@ -10,8 +10,8 @@ use lib.ListN.{length}
 use borrow.Author.Tests.{lt-leb, le-ltb}
 use Rattle.domains.specs.Choice.{pick}
 use Rattle.stores.specs.declared.Assignments.{Assignments}
-use Rattle.stores.specs.declared.Refusal.the-variants.{NotLower, NoRoom}
-use Rattle.stores.specs.declared.SynchroniseAnswer.the-variants.{Unfixed, Refused}
+use Rattle.stories.specs.declared.Refusal.the-variants.{NotLower, NoRoom}
+use Rattle.stories.specs.declared.SynchroniseAnswer.the-variants.{Unfixed, Refused}
 use Rattle.stores.specs.Calls.{entriesAbove, unfixed, synchroniseAnswer}
 use Rattle.stores.proofs.Straight.{tidy}
 use Rattle.stores.proofs.History.{straight}

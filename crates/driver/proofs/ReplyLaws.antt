@@ -8,19 +8,21 @@ use lib.ListN.{length}
 use lib.Dec.{leb, ltb}
 use Rattle.domains.specs.Choice.{pick}
 use Rattle.stores.specs.declared.Assignments.{Assignments}
-use Rattle.stores.specs.declared.Refusal.the-variants.{NotLower, NoRoom}
-use Rattle.stores.specs.declared.GrowAnswer.{GrowAnswer}
-use Rattle.stores.specs.declared.GrowAnswer.the-variants as Grow
-use Rattle.stores.specs.declared.PostAnswer.{PostAnswer}
-use Rattle.stores.specs.declared.PostAnswer.the-variants as Post
-use Rattle.stores.specs.declared.OpenAnswer.{OpenAnswer}
-use Rattle.stores.specs.declared.OpenAnswer.the-variants as Open
-use Rattle.stores.specs.declared.SynchroniseAnswer.{SynchroniseAnswer}
-use Rattle.stores.specs.declared.SynchroniseAnswer.the-variants as Synchronise
-use Rattle.stores.specs.Calls.{Pair, entriesAbove, unfixed, synchronises, synchroniseAnswer, pairsOf, written, variablesOf, lowersIn}
+use Rattle.stories.specs.declared.Refusal.the-variants.{NotLower, NoRoom}
+use Rattle.stories.specs.declared.GrowAnswer.{GrowAnswer}
+use Rattle.stories.specs.declared.GrowAnswer.the-variants as Grow
+use Rattle.stories.specs.declared.PostAnswer.{PostAnswer}
+use Rattle.stories.specs.declared.PostAnswer.the-variants as Post
+use Rattle.stories.specs.declared.OpenAnswer.{OpenAnswer}
+use Rattle.stories.specs.declared.OpenAnswer.the-variants as Open
+use Rattle.stories.specs.declared.SynchroniseAnswer.{SynchroniseAnswer}
+use Rattle.stories.specs.declared.SynchroniseAnswer.the-variants as Synchronise
+use Rattle.stories.specs.Story.{Pair}
+use Rattle.stores.specs.Calls.{entriesAbove, unfixed, synchronises, synchroniseAnswer, pairsOf}
+use Rattle.stories.specs.Calls.{written, variablesIn, lowersIn}
 use Rattle.stores.specs.Made.{Made}
-use Rattle.questions.specs.declared.answers.TruthAnswer.{TruthAnswer}
-use Rattle.questions.specs.declared.answers.TruthAnswer.the-variants as Told
+use Rattle.stories.specs.declared.TruthAnswer.{TruthAnswer}
+use Rattle.stories.specs.declared.TruthAnswer.the-variants as Told
 use Rattle.lines.specs.Spelling.{spelled}
 use Rattle.commands.specs.declared.command.Command.{Command}
 use Rattle.commands.specs.Commands.{commandOf}
@@ -63,14 +65,14 @@ pub truth-of : (t : Bool) (a b : TruthAnswer) → pick t (truthReply a) (truthRe
 truth-of true a b = refl
 truth-of false a b = refl
 
-pairs-before : (pairs : List Pair) (variables : List ℕ) (lowers : List ℤ) → pairsText (length pairs) (variablesOf pairs ++ variables) (lowersIn pairs ++ lowers) ≡ pairsText (length pairs) (variablesOf pairs) (lowersIn pairs)
+pairs-before : (pairs : List Pair) (variables : List ℕ) (lowers : List ℤ) → pairsText (length pairs) (variablesIn pairs ++ variables) (lowersIn pairs ++ lowers) ≡ pairsText (length pairs) (variablesIn pairs) (lowersIn pairs)
 unfolding pairsText
 pairs-before [] variables lowers = pairs-none variables lowers
 pairs-before (p ∷ pairs) variables lowers = ap (λ (t : List ℕ). pairText (p .variable) (p .lower) ++ t) (pairs-before pairs variables lowers)
 
 -- a `back` prints the pairs that it wrote to the slices
 abbrev Shows : SynchroniseAnswer → List Pair → Type 0
-Shows a pairs = (number : ℕ) (variables : List ℕ) (lowers : List ℤ) → replyText number (synchroniseReply a) (written (variablesOf pairs) variables) (written (lowersIn pairs) lowers) ≡ replyText number (synchroniseReply a) (variablesOf pairs) (lowersIn pairs)
+Shows a pairs = (number : ℕ) (variables : List ℕ) (lowers : List ℤ) → replyText number (synchroniseReply a) (written (variablesIn pairs) variables) (written (lowersIn pairs) lowers) ≡ replyText number (synchroniseReply a) (variablesIn pairs) (lowersIn pairs)
 
 abbrev answerOf : Bool → Bool → List Pair → SynchroniseAnswer
 answerOf high full pairs = pick high (Synchronise.Refused NotLower) (pick full (Synchronise.Refused NoRoom) (Synchronise.Unfixed (length pairs)))

@@ -7,10 +7,13 @@ use Rattle.predicates.specs.declared.PredicateType.{PredicateType}
 use Rattle.predicates.specs.Counts.{counted}
 use Rattle.domains.specs.Domain.{Domain}
 use Rattle.stores.specs.declared.Assignments.{Assignments}
-use Rattle.stores.specs.Calls.{growAnswer, growStore, listAnswer, listStore, postAnswer, postStore, openAnswer, openStore, synchroniseAnswer, synchroniseStore, Pair, pairsOf, variablesOf, lowersIn}
+use Rattle.stores.specs.Calls.{growAnswer, growStore, listAnswer, listStore, postAnswer, postStore, openAnswer, openStore, synchroniseAnswer, synchroniseStore, pairsOf}
+use Rattle.stories.specs.Story.{Pair}
+use Rattle.stories.specs.Calls.{variablesIn, lowersIn}
 use Rattle.creating.specs.Parts.{between}
-use Rattle.questions.specs.declared.answers.TruthAnswer.the-variants as Told
-use Rattle.questions.specs.Answers.{askNow, askAt, truth, leftOf}
+use Rattle.stories.specs.declared.TruthAnswer.the-variants as Told
+use Rattle.questions.specs.Answers.{askNow, askAt}
+use Rattle.stories.specs.Questions.{truth, leftOf}
 use Rattle.commands.specs.declared.command.Command.{Command}
 use Rattle.commands.specs.declared.command.Command.the-variants as command
 use Rattle.commands.specs.Commands.{commandOf}
@@ -69,7 +72,7 @@ commandPairs s command.Bad = []
 
 -- what is printed for a command
 unfoldable pub commandText : ℕ → Assignments → List ℤ → Command → List ℕ
-commandText number s values c = replyText number (commandReply s values c) (variablesOf (commandPairs s c)) (lowersIn (commandPairs s c))
+commandText number s values c = replyText number (commandReply s values c) (variablesIn (commandPairs s c)) (lowersIn (commandPairs s c))
 
 -- the store after a line
 unfoldable pub lineStore : Assignments → List ℕ → Assignments

@@ -6,8 +6,8 @@ use Rattle.predicates.specs.declared.PredicateType.{PredicateType}
 use Rattle.domains.specs.Choice.{pick}
 use Rattle.pools.specs.declared.Pool.{Pool}
 use Rattle.stores.specs.declared.Variable.{Variable}
-use Rattle.stores.specs.declared.Refusal.the-variants.{NoVariable}
-use Rattle.questions.specs.Answers.{truth}
+use Rattle.stories.specs.declared.Refusal.the-variants.{NoVariable}
+use Rattle.stories.specs.Questions.{truth}
 use Rattle.questions.specs.Parts.{boundsAt, within, holesIn, holesAt}
 use Rattle.replies.specs.declared.answers.Reply.{Reply}
 use Rattle.replies.specs.Replies.{refusedBy, truthReply}

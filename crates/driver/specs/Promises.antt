@@ -5,8 +5,8 @@ use mathlib.Core.Path.{_≡_}
 use mathlib.Core.List.{List, [], _++_}
 use lib.ListN.{length}
 use Rattle.stores.specs.declared.Assignments.{Assignments}
-use Rattle.stores.specs.declared.Refusal.the-variants.{NoRoom}
-use Rattle.stores.specs.declared.SynchroniseAnswer.the-variants.{Refused}
+use Rattle.stories.specs.declared.Refusal.the-variants.{NoRoom}
+use Rattle.stories.specs.declared.SynchroniseAnswer.the-variants.{Refused}
 use Rattle.stores.specs.Calls.{synchroniseAnswer}
 use Rattle.stores.specs.Made.{Made}
 use Rattle.commands.specs.declared.command.Command.the-variants.{Bad}

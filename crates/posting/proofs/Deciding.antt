@@ -13,7 +13,7 @@ use Rattle.domains.proofs.Tests.{by-cases, picked}
 use Rattle.rules.specs.Sound.{domainIn, Sound}
 use Rattle.stores.specs.declared.Variable.{Variable}
 use Rattle.stores.specs.declared.Assignments.{Assignments}
-use Rattle.stores.specs.declared.PostAnswer.{PostAnswer}
+use Rattle.stories.specs.declared.PostAnswer.{PostAnswer}
 use Rattle.stores.specs.Store.{variableOf, domainOf}
 use Rattle.stores.specs.Calls.{domainBefore, boundsAfter, does, postAnswer, postStore}
 use Rattle.stores.proofs.Cases.{post-absent, post-idle, post-full, post-overflows}

@@ -4,9 +4,9 @@ use lib.Dec.{leb}
 use lib.Signed.{ltZ}
 use Rattle.domains.specs.declared.Bounds.{Bounds}
 use Rattle.domains.specs.Choice.{pick}
-use Rattle.stores.specs.declared.Refusal.the-variants.{TrailFull, StepOverflow, Empty}
-use Rattle.stores.specs.declared.PostAnswer.{PostAnswer}
-use Rattle.stores.specs.declared.PostAnswer.the-variants.{Changed, Unchanged, Refused}
+use Rattle.stories.specs.declared.Refusal.the-variants.{TrailFull, StepOverflow, Empty}
+use Rattle.stories.specs.declared.PostAnswer.{PostAnswer}
+use Rattle.stories.specs.declared.PostAnswer.the-variants.{Changed, Unchanged, Refused}
 
 -- a post that does nothing
 abbrev pub idleAnswer : Bounds → PostAnswer

@@ -10,8 +10,8 @@ use Rattle.domains.specs.Domain.{Domain, acts, overflows, lowerAfter, upperAfte
 use Rattle.pools.specs.declared.Pool.{Pool}
 use Rattle.rules.specs.Sound.{domainIn}
 use Rattle.stores.specs.declared.Variable.{Variable}
-use Rattle.stores.specs.declared.Refusal.the-variants.{NoVariable, TrailFull, StepOverflow}
-use Rattle.stores.specs.declared.PostAnswer.the-variants.{Refused}
+use Rattle.stories.specs.declared.Refusal.the-variants.{NoVariable, TrailFull, StepOverflow}
+use Rattle.stories.specs.declared.PostAnswer.the-variants.{Refused}
 use Rattle.posting.specs.declared.Decision.{Decision}
 use Rattle.posting.specs.declared.Decision.the-variants.{Stays, Moves}
 use Rattle.posting.specs.Answers.{idleAnswer}

@@ -9,8 +9,8 @@ use Rattle.domains.specs.Domain.{Domain}
 use Rattle.domains.proofs.Tests.{clash}
 use Rattle.stores.specs.declared.Assignments.{Assignments}
 use Rattle.stores.specs.declared.Variable.{Variable}
-use Rattle.stores.specs.declared.Refusal.{Refusal}
-use Rattle.stores.specs.declared.Refusal.the-variants.{NoVariable}
+use Rattle.stories.specs.declared.Refusal.{Refusal}
+use Rattle.stories.specs.declared.Refusal.the-variants.{NoVariable}
 use Rattle.stores.specs.Made.{Made}
 use Rattle.stores.specs.Store.{variableOf, domainOf}
 use Rattle.stores.specs.Positions.{domainAt}

@@ -20,8 +20,8 @@ use Rattle.domains.proofs.TruthLaws.{truth-law, emptied-truth-law}
 use Rattle.stores.specs.Store.{domainOf}
 use Rattle.stores.specs.Positions.{domainAt}
 use Rattle.stores.proofs.Kept as Stores
-use Rattle.questions.specs.declared.answers.TruthAnswer.the-variants as Told
-use Rattle.questions.specs.Answers.{yesNo, inWords, lowest, highest, contains, isOne, assigned, assignedValue, truth}
+use Rattle.stories.specs.declared.TruthAnswer.the-variants as Told
+use Rattle.stories.specs.Questions.{yesNo, inWords, lowest, highest, contains, isOne, assigned, assignedValue, truth}
 use Rattle.questions.specs.Promises.{remainsAt, remainsNow, Some, None, Only, All, Said, About, PositionLaw, NowLaw, PastLaw, RefusalLaw}
 
 pub refusal-law : RefusalLaw

@@ -11,20 +11,21 @@ use Rattle.predicates.specs.declared.PredicateType.the-variants.{LowerBound, No
 use Rattle.domains.specs.Choice.{pick}
 use Rattle.domains.specs.Domain.{satisfies}
 use Rattle.stores.specs.declared.Assignments.{Assignments}
-use Rattle.stores.specs.declared.Refusal.{Refusal}
-use Rattle.stores.specs.declared.Refusal.the-variants.{NoVariable}
+use Rattle.stories.specs.declared.Refusal.{Refusal}
+use Rattle.stories.specs.declared.Refusal.the-variants.{NoVariable}
 use Rattle.stores.specs.Store.{variableOf}
 use Rattle.stores.specs.Made.{Made}
-use Rattle.stores.specs.Replay.{remains}
-use Rattle.questions.specs.declared.answers.BoundAnswer.{BoundAnswer}
-use Rattle.questions.specs.declared.answers.BoundAnswer.the-variants as Bound
-use Rattle.questions.specs.declared.answers.YesNo.{YesNo}
-use Rattle.questions.specs.declared.answers.YesNo.the-variants as Yes
-use Rattle.questions.specs.declared.answers.ValueAnswer.{ValueAnswer}
-use Rattle.questions.specs.declared.answers.ValueAnswer.the-variants as Value
-use Rattle.questions.specs.declared.answers.TruthAnswer.{TruthAnswer}
-use Rattle.questions.specs.declared.answers.TruthAnswer.the-variants as Told
-use Rattle.questions.specs.Answers.{yesNo, lowest, highest, contains, assigned, assignedValue, truth, asked, askNow, askAt}
+use Rattle.stories.specs.Story.{remains}
+use Rattle.stories.specs.declared.BoundAnswer.{BoundAnswer}
+use Rattle.stories.specs.declared.BoundAnswer.the-variants as Bound
+use Rattle.stories.specs.declared.YesNo.{YesNo}
+use Rattle.stories.specs.declared.YesNo.the-variants as Yes
+use Rattle.stories.specs.declared.ValueAnswer.{ValueAnswer}
+use Rattle.stories.specs.declared.ValueAnswer.the-variants as Value
+use Rattle.stories.specs.declared.TruthAnswer.{TruthAnswer}
+use Rattle.stories.specs.declared.TruthAnswer.the-variants as Told
+use Rattle.stories.specs.Questions.{yesNo, lowest, highest, contains, assigned, assignedValue, truth}
+use Rattle.questions.specs.Answers.{asked, askNow, askAt}
 
 -- ---- Demand 3: the answers about a position
 

@@ -3,11 +3,6 @@
 mod answers;
 mod parts;
 
-pub use answers::BoundAnswer;
-pub use answers::LeftAnswer;
-pub use answers::TruthAnswer;
-pub use answers::ValueAnswer;
-pub use answers::YesNo;
 use answers::answer;
 use answers::if_false;
 use answers::if_true;
@@ -27,10 +22,16 @@ use predicates::DomainId;
 use predicates::Predicate;
 use predicates::TrailPosition;
 use stores::Assignments;
-use stores::Refusal;
+use stories::BoundAnswer;
+use stories::LeftAnswer;
+use stories::Refusal;
+use stories::TruthAnswer;
+use stories::ValueAnswer;
+use stories::YesNo;
 ghost use mathlib.Core.Path.{_≡_};
 ghost use Rattle.stores.specs.Made.{Made};
-ghost use Rattle.questions.specs.Answers.{lowest, highest, contains, assigned, assignedValue, truth, satisfied, falsified, left, askNow, askAt, initialLower, initialUpper};
+ghost use Rattle.stories.specs.Questions.{lowest, highest, contains, assigned, assignedValue, truth, satisfied, falsified, left};
+ghost use Rattle.questions.specs.Answers.{askNow, askAt, initialLower, initialUpper};
 
 pub fn get_lower_bound(store: Assignments, domain: DomainId) -> BoundAnswer
     requires { ⌜ Made store ⌝ }

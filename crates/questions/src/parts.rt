@@ -1,13 +1,13 @@
 // What the questions read of a store, and what bounds and holes tell: on small values and on a pool each, so that a host
 // that holds these asks without copying a store. All but `find` take any content.
-use super::answers::TruthAnswer;
-use super::answers::ValueAnswer;
 use domains::Bounds;
 use pools::Pool;
 use predicates::DomainId;
 use predicates::PredicateType;
 use predicates::TrailPosition;
 use stores::Variable;
+use stories::TruthAnswer;
+use stories::ValueAnswer;
 ghost use mathlib.Core.Path.{_≡_};
 ghost use mathlib.Core.Bool.{not, _&&_};
 ghost use mathlib.Core.List.{List};
@@ -16,7 +16,7 @@ ghost use lib.IntN.{ℤ};
 ghost use Rattle.integers.specs.Integers.{eqZ};
 ghost use Rattle.domains.specs.Domain.{has, member};
 ghost use Rattle.questions.specs.Parts.{foundIn, lowerAt, upperAt, boundsAt, within, holesIn, holesAt};
-ghost use Rattle.questions.specs.Answers.{assignedValue, truth, leftOf};
+ghost use Rattle.stories.specs.Questions.{assignedValue, truth, leftOf};
 
 // A variable's record, if there is such a variable.
 pub enum Found {

@@ -1,16 +1,16 @@
 -- What a line is answered, from what its call answered (RULES.md, D6 and D9). Assumes nothing.
-use Rattle.stores.specs.declared.Refusal.{Refusal}
-use Rattle.stores.specs.declared.GrowAnswer.{GrowAnswer}
-use Rattle.stores.specs.declared.GrowAnswer.the-variants as Grow
-use Rattle.stores.specs.declared.PostAnswer.{PostAnswer}
-use Rattle.stores.specs.declared.PostAnswer.the-variants as Post
-use Rattle.stores.specs.declared.OpenAnswer.{OpenAnswer}
-use Rattle.stores.specs.declared.OpenAnswer.the-variants as Open
-use Rattle.stores.specs.declared.SynchroniseAnswer.{SynchroniseAnswer}
-use Rattle.stores.specs.declared.SynchroniseAnswer.the-variants as Synchronise
-use Rattle.stores.specs.Refusals.{numberOf}
-use Rattle.questions.specs.declared.answers.TruthAnswer.{TruthAnswer}
-use Rattle.questions.specs.declared.answers.TruthAnswer.the-variants as Told
+use Rattle.stories.specs.declared.Refusal.{Refusal}
+use Rattle.stories.specs.declared.GrowAnswer.{GrowAnswer}
+use Rattle.stories.specs.declared.GrowAnswer.the-variants as Grow
+use Rattle.stories.specs.declared.PostAnswer.{PostAnswer}
+use Rattle.stories.specs.declared.PostAnswer.the-variants as Post
+use Rattle.stories.specs.declared.OpenAnswer.{OpenAnswer}
+use Rattle.stories.specs.declared.OpenAnswer.the-variants as Open
+use Rattle.stories.specs.declared.SynchroniseAnswer.{SynchroniseAnswer}
+use Rattle.stories.specs.declared.SynchroniseAnswer.the-variants as Synchronise
+use Rattle.stories.specs.Refusals.{numberOf}
+use Rattle.stories.specs.declared.TruthAnswer.{TruthAnswer}
+use Rattle.stories.specs.declared.TruthAnswer.the-variants as Told
 use Rattle.replies.specs.declared.answers.Reply.{Reply}
 use Rattle.replies.specs.declared.answers.Reply.the-variants as reply
 

@@ -1,12 +1,12 @@
 // What a line is answered, from what its call answered.
-use questions::TruthAnswer;
-use stores::GrowAnswer;
-use stores::OpenAnswer;
-use stores::PostAnswer;
-use stores::Refusal;
-use stores::SynchroniseAnswer;
+use stories::GrowAnswer;
+use stories::OpenAnswer;
+use stories::PostAnswer;
+use stories::Refusal;
+use stories::SynchroniseAnswer;
+use stories::TruthAnswer;
 ghost use mathlib.Core.Path.{_≡_};
-ghost use Rattle.stores.specs.Refusals.{numberOf};
+ghost use Rattle.stories.specs.Refusals.{numberOf};
 ghost use Rattle.replies.specs.Replies.{growReply, postReply, openReply, synchroniseReply, truthReply};
 
 // What is printed after the line's number. A `Pairs` has its pairs in two slices.

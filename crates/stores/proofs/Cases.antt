@@ -17,14 +17,15 @@ use Rattle.domains.specs.declared.Bounds.{Bounds}
 use Rattle.domains.specs.Choice.{pick}
 use Rattle.domains.specs.Domain.{overflows, emptied, moved, after}
 use Rattle.domains.proofs.Laws.{after-idle, after-moved}
-use Rattle.stores.specs.declared.Refusal.the-variants.{NoVariable, NotRoot, BadDomain, TooManyVariables, TrailFull, StepOverflow, Empty, TooManyCheckpoints, NotLower, NoRoom}
-use Rattle.stores.specs.declared.GrowAnswer.the-variants as Grow
-use Rattle.stores.specs.declared.PostAnswer.the-variants as Post
-use Rattle.stores.specs.declared.OpenAnswer.the-variants as Open
-use Rattle.stores.specs.declared.SynchroniseAnswer.the-variants as Synchronise
+use Rattle.stories.specs.declared.Refusal.the-variants.{NoVariable, NotRoot, BadDomain, TooManyVariables, TrailFull, StepOverflow, Empty, TooManyCheckpoints, NotLower, NoRoom}
+use Rattle.stories.specs.declared.GrowAnswer.the-variants as Grow
+use Rattle.stories.specs.declared.PostAnswer.the-variants as Post
+use Rattle.stories.specs.declared.OpenAnswer.the-variants as Open
+use Rattle.stories.specs.declared.SynchroniseAnswer.the-variants as Synchronise
 use Rattle.stores.specs.declared.Assignments.{Assignments}
 use Rattle.stores.specs.Store.{opened}
-use Rattle.stores.specs.Calls.{growAnswer, growStore, grown, missing, isEmpty, listAnswer, listStore, listed, domainBefore, does, postAnswer, keeps, postStore, posted, openAnswer, openStore, entriesAbove, unfixed, synchroniseAnswer, synchroniseStore, synchronised}
+use Rattle.stores.specs.Calls.{growAnswer, growStore, grown, listAnswer, listStore, listed, domainBefore, does, postAnswer, keeps, postStore, posted, openAnswer, openStore, entriesAbove, unfixed, synchroniseAnswer, synchroniseStore, synchronised}
+use Rattle.stories.specs.Calls.{missing, isEmpty}
 
 -- ---- posts
 

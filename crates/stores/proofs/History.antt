@@ -19,7 +19,8 @@ use Rattle.domains.proofs.Tests.{clash}
 use Rattle.stores.specs.declared.Assignments.{Assignments}
 use Rattle.stores.specs.Made.{Made, Since}
 use Rattle.stores.specs.Store.{bare, recorded, opened}
-use Rattle.stores.specs.Calls.{fresh, isEmpty, missing, listed, posted, entriesAbove, synchronised, synchroniseStore}
+use Rattle.stores.specs.Calls.{fresh, listed, posted, entriesAbove, synchronised, synchroniseStore}
+use Rattle.stories.specs.Calls.{isEmpty, missing}
 use Rattle.stores.proofs.Straight.{Records, Straight, tidy}
 use Rattle.stores.proofs.Undo.{back-recorded, back-opened, back-where-opened}
 use Rattle.stores.proofs.Steps.{post-records, post-straight, grown-straight, back-straight}

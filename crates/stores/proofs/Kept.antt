@@ -28,22 +28,24 @@ use Rattle.domains.proofs.Tests.{by-cases, clash, both}
 use Rattle.domains.proofs.Membership.{left}
 use Rattle.domains.specs.Promises.{Tight}
 use Rattle.domains.proofs.Laws as Domains
-use Rattle.stores.specs.declared.Entry.{Entry}
-use Rattle.stores.specs.declared.Refusal.{Refusal}
-use Rattle.stores.specs.declared.Refusal.the-variants.{NoVariable, NotRoot, BadDomain, TooManyVariables, TrailFull, StepOverflow, Empty, TooManyCheckpoints, NotLower, NoRoom, NoSuchEntry, NoDecision, NoReason}
-use Rattle.stores.specs.declared.GrowAnswer.the-variants as Grow
-use Rattle.stores.specs.declared.PostAnswer.{PostAnswer}
-use Rattle.stores.specs.declared.PostAnswer.the-variants as Post
-use Rattle.stores.specs.declared.OpenAnswer.the-variants as Open
-use Rattle.stores.specs.declared.SynchroniseAnswer.the-variants as Synchronise
+use Rattle.stories.specs.declared.Entry.{Entry}
+use Rattle.stories.specs.declared.Refusal.{Refusal}
+use Rattle.stories.specs.declared.Refusal.the-variants.{NoVariable, NotRoot, BadDomain, TooManyVariables, TrailFull, StepOverflow, Empty, TooManyCheckpoints, NotLower, NoRoom, NoSuchEntry, NoDecision, NoReason}
+use Rattle.stories.specs.declared.GrowAnswer.the-variants as Grow
+use Rattle.stories.specs.declared.PostAnswer.{PostAnswer}
+use Rattle.stories.specs.declared.PostAnswer.the-variants as Post
+use Rattle.stories.specs.declared.OpenAnswer.the-variants as Open
+use Rattle.stories.specs.declared.SynchroniseAnswer.the-variants as Synchronise
 use Rattle.stores.specs.declared.Assignments.{Assignments}
-use Rattle.stores.specs.Refusals.{numberOf, Ground, decided, First}
-use Rattle.stores.specs.Words.{toldOf}
-use Rattle.stores.specs.Words.Told.{ok, refused}
-use Rattle.stores.specs.Store.{noEntry, bare, variableOf, domainOf, entryOf, recorded, allocated, marked, opened}
-use Rattle.stores.specs.Calls.{growGrounds, growAnswer, growStore, grown, fresh, newVariable, spanOf, missing, isEmpty, listAnswer, listStore, listed, domainBefore, does, postGrounds, postAnswer, keeps, postStore, posted, openGrounds, openAnswer, openStore, entriesAbove, unfixed, synchroniseGrounds, synchroniseAnswer, synchroniseStore, synchronised, pairsOf}
+use Rattle.stories.specs.Refusals.{numberOf, Ground, decided, First}
+use Rattle.stories.specs.Words.{toldOf}
+use Rattle.stories.specs.Words.Told.{ok, refused}
+use Rattle.stories.specs.Story.{noEntry}
+use Rattle.stores.specs.Store.{bare, variableOf, domainOf, entryOf, recorded, allocated, marked, opened}
+use Rattle.stores.specs.Calls.{growGrounds, growAnswer, growStore, grown, fresh, newVariable, listAnswer, listStore, listed, domainBefore, does, postGrounds, postAnswer, keeps, postStore, posted, openGrounds, openAnswer, openStore, entriesAbove, unfixed, synchroniseGrounds, synchroniseAnswer, synchroniseStore, synchronised, pairsOf}
+use Rattle.stories.specs.Calls.{spanOf, missing, isEmpty}
 use Rattle.stores.specs.Made.{Made, Since}
-use Rattle.stores.specs.Replay.{on, remains, replayed}
+use Rattle.stories.specs.Story.{on, remains, replayed}
 use Rattle.stores.specs.Promises.{RefusalLaw, UntouchedLaw, RoomLaw, SameLaw, SetLaw, BoundsLaw, Lost, SomeLeft, AnswerLaw, ReplayLaw, PositionLaw, CountLaw, BackLaw, OpenedLaw}
 use Rattle.stores.proofs.Straight.{tidy}
 use Rattle.stores.proofs.Meaning.{meant, recorded-own, recorded-other}

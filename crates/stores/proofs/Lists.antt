@@ -22,7 +22,8 @@ use Rattle.domains.proofs.Tests.{clash}
 use Rattle.stores.specs.declared.Assignments.{Assignments}
 use Rattle.stores.specs.Made.{AreI32}
 use Rattle.stores.specs.Store.{domainOf, recorded, allocated}
-use Rattle.stores.specs.Calls.{notEqual, smallest, largest, spanOf, unlisted, missing, grown, posted, removedAll, listed}
+use Rattle.stories.specs.Calls.{notEqual, smallest, largest, spanOf, unlisted, missing}
+use Rattle.stores.specs.Calls.{grown, posted, removedAll, listed}
 use Rattle.stores.proofs.Straight.{Straight, tidy}
 use Rattle.stores.proofs.Meaning.{meant, recorded-own}
 use Rattle.stores.proofs.Steps.{fits-of, post-records, post-straight, grown-straight, grown-domain}

@@ -22,12 +22,14 @@ use Rattle.pools.specs.declared.Update.{Update}
 use Rattle.pools.specs.declared.Pool.{Pool}
 use Rattle.pools.specs.Chain.{noUpdates, chainOf, valuesOf, upTo}
 use Rattle.pools.proofs.ChainLaws.{no-link, chain-pushed-own, chain-pushed-other}
-use Rattle.stores.specs.declared.Entry.{Entry}
+use Rattle.stories.specs.declared.Entry.{Entry}
 use Rattle.stores.specs.declared.Variable.{Variable}
 use Rattle.stores.specs.declared.Assignments.{Assignments}
 use Rattle.stores.specs.Made.{AreI32}
-use Rattle.stores.specs.Store.{noEntry, noVariable, bare, variableOf, lowersOf, uppersOf, holesOf, domainOf, entryOf, pushIf, linkIf, recorded, allocated, marked, opened}
-use Rattle.stores.specs.Replay.{on, replayed, boundsOf, prunedUpTo}
+use Rattle.stories.specs.Story.{noEntry}
+use Rattle.stores.specs.Store.{noVariable, bare, variableOf, lowersOf, uppersOf, holesOf, domainOf, entryOf, pushIf, linkIf, recorded, allocated, marked, opened}
+use Rattle.stories.specs.Story.{on, replayed, boundsOf}
+use Rattle.stores.specs.Replay.{prunedUpTo}
 use Rattle.stores.specs.Positions.{valueAt, domainAt}
 use Rattle.stores.proofs.Straight.{domainWith, Records, Straight, Tidy, TidyPool, tidy}
 

@@ -27,13 +27,15 @@ use Rattle.domains.proofs.Laws.{after-idle, after-moved, tight-law}
 use Rattle.domains.proofs.Fits.{fits-law}
 use Rattle.pools.specs.Chain.{chainOf, valuesOf}
 use Rattle.pools.proofs.ChainLaws.{no-link}
-use Rattle.stores.specs.declared.Entry.{Entry}
+use Rattle.stories.specs.declared.Entry.{Entry}
 use Rattle.stores.specs.declared.Variable.{Variable}
 use Rattle.stores.specs.declared.Assignments.{Assignments}
 use Rattle.stores.specs.Made.{AreI32}
-use Rattle.stores.specs.Store.{noEntry, noVariable, bare, variableOf, domainOf, differs, recorded, allocated, marked, opened}
-use Rattle.stores.specs.Calls.{atLeast, atMost, grown, domainBefore, boundsAfter, posted, synchronised}
-use Rattle.stores.specs.Replay.{on, replayed}
+use Rattle.stories.specs.Story.{noEntry}
+use Rattle.stores.specs.Store.{noVariable, bare, variableOf, domainOf, differs, recorded, allocated, marked, opened}
+use Rattle.stories.specs.Calls.{atLeast, atMost}
+use Rattle.stores.specs.Calls.{grown, domainBefore, boundsAfter, posted, synchronised}
+use Rattle.stories.specs.Story.{on, replayed}
 use Rattle.stores.proofs.Straight.{domainWith, Records, Straight, tidy}
 use Rattle.stores.proofs.Undo.{back-recorded, back-opened, back-where-opened}
 use Rattle.stores.proofs.Meaning.{meant, recorded-own}

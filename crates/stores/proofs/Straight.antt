@@ -19,11 +19,12 @@ use Rattle.domains.specs.Domain.{Domain, isNotEqual, after}
 use Rattle.pools.specs.declared.Update.{Update}
 use Rattle.pools.specs.declared.Pool.{Pool}
 use Rattle.pools.specs.Chain.{noUpdate, noUpdates}
-use Rattle.stores.specs.declared.Entry.{Entry}
+use Rattle.stories.specs.declared.Entry.{Entry}
 use Rattle.stores.specs.declared.Variable.{Variable}
 use Rattle.stores.specs.declared.Assignments.{Assignments}
 use Rattle.stores.specs.Made.{AreI32}
-use Rattle.stores.specs.Store.{noEntry, noVariable, bare, variableOf, domainOf, entryOf, pushIf, linkIf, differs, recorded, allocated, marked, opened}
+use Rattle.stories.specs.Story.{noEntry}
+use Rattle.stores.specs.Store.{noVariable, bare, variableOf, domainOf, entryOf, pushIf, linkIf, differs, recorded, allocated, marked, opened}
 
 -- ---- the steps
 

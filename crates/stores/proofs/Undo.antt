@@ -15,10 +15,11 @@ use Rattle.domains.specs.Domain.{isNotEqual, prunedBy}
 use Rattle.pools.specs.declared.Update.{Update}
 use Rattle.pools.specs.declared.Pool.{Pool}
 use Rattle.pools.specs.Chain.{noUpdate}
-use Rattle.stores.specs.declared.Entry.{Entry}
+use Rattle.stories.specs.declared.Entry.{Entry}
 use Rattle.stores.specs.declared.Variable.{Variable}
 use Rattle.stores.specs.declared.Assignments.{Assignments}
-use Rattle.stores.specs.Store.{noEntry, noVariable, variableOf, pushIf, linkIf, popIf, backIf, differs, recorded, undoneBy, undone, undoneAll, newest, changedBy, opened, withCheckpoints, cut}
+use Rattle.stories.specs.Story.{noEntry}
+use Rattle.stores.specs.Store.{noVariable, variableOf, pushIf, linkIf, popIf, backIf, differs, recorded, undoneBy, undone, undoneAll, newest, changedBy, opened, withCheckpoints, cut}
 use Rattle.stores.specs.Calls.{synchronised}
 use Rattle.stores.proofs.Straight.{Records, Tidy, TidyPool}
 

@@ -14,32 +14,24 @@ use Rattle.predicates.specs.declared.Reason.the-variants.{None}
 use Rattle.domains.specs.declared.Bounds.{Bounds}
 use Rattle.domains.specs.Choice.{pick}
 use Rattle.domains.specs.Domain.{Domain, has, emptied, width, acts, overflows, lowerAfter, upperAfter, after}
-use Rattle.stores.specs.declared.Refusal.the-variants.{NoVariable, NotRoot, BadDomain, TooManyVariables, TrailFull, StepOverflow, Empty, TooManyCheckpoints, NotLower, NoRoom, NoSuchEntry}
-use Rattle.stores.specs.Refusals.{numberOf, Ground, decided}
-use Rattle.stores.specs.declared.GrowAnswer.{GrowAnswer}
-use Rattle.stores.specs.declared.GrowAnswer.the-variants as Grow
-use Rattle.stores.specs.declared.PostAnswer.{PostAnswer}
-use Rattle.stores.specs.declared.PostAnswer.the-variants as Post
-use Rattle.stores.specs.declared.OpenAnswer.{OpenAnswer}
-use Rattle.stores.specs.declared.OpenAnswer.the-variants as Open
-use Rattle.stores.specs.declared.SynchroniseAnswer.{SynchroniseAnswer}
-use Rattle.stores.specs.declared.SynchroniseAnswer.the-variants as Synchronise
-use Rattle.stores.specs.declared.EntryAnswer.{EntryAnswer}
-use Rattle.stores.specs.declared.EntryAnswer.the-variants as Ask
+use Rattle.stories.specs.declared.Refusal.the-variants.{NoVariable, NotRoot, BadDomain, TooManyVariables, TrailFull, StepOverflow, Empty, TooManyCheckpoints, NotLower, NoRoom, NoSuchEntry}
+use Rattle.stories.specs.Refusals.{numberOf, Ground, decided}
+use Rattle.stories.specs.declared.GrowAnswer.{GrowAnswer}
+use Rattle.stories.specs.declared.GrowAnswer.the-variants as Grow
+use Rattle.stories.specs.declared.PostAnswer.{PostAnswer}
+use Rattle.stories.specs.declared.PostAnswer.the-variants as Post
+use Rattle.stories.specs.declared.OpenAnswer.{OpenAnswer}
+use Rattle.stories.specs.declared.OpenAnswer.the-variants as Open
+use Rattle.stories.specs.declared.SynchroniseAnswer.{SynchroniseAnswer}
+use Rattle.stories.specs.declared.SynchroniseAnswer.the-variants as Synchronise
+use Rattle.stories.specs.declared.EntryAnswer.{EntryAnswer}
+use Rattle.stories.specs.declared.EntryAnswer.the-variants as Ask
+use Rattle.stories.specs.Story.{Pair}
+use Rattle.stories.specs.Calls.{atLeast, atMost, notEqual, spanOf, missing, isEmpty}
 use Rattle.stores.specs.declared.Assignments.{Assignments}
 use Rattle.stores.specs.Store.{bare, domainOf, entryOf, newest, changedBy, differs, recorded, undone, undoneAll, allocated, marked, opened, withCheckpoints, cut}
 
 -- ---- creating
-
--- the predicates of a creation
-abbrev pub atLeast : ℕ → ℤ → Predicate
-atLeast x v = record { domain = record { 0 = x }; kind = LowerBound; value = v }
-
-abbrev pub atMost : ℕ → ℤ → Predicate
-atMost x v = record { domain = record { 0 = x }; kind = UpperBound; value = v }
-
-abbrev pub notEqual : ℕ → ℤ → Predicate
-notEqual x v = record { domain = record { 0 = x }; kind = NotEqual; value = v }
 
 -- a dense variable: two entries, "at least lower" then "at most upper", both with the new bounds as old bounds and no reason
 unfoldable pub grown : Assignments → Bounds → Assignments
@@ -71,32 +63,6 @@ grows (Grow.Refused r) = false
 
 unfoldable pub growStore : Assignments → Bounds → Assignments
 growStore s b = pick (grows (growAnswer s b)) (grown s b) s
-
--- the smallest and the largest of a list that is not empty
-abbrev pub smallest : ℤ → List ℤ → ℤ
-smallest a [] = a
-smallest a (b ∷ bs) = smallest (pick (ltZ b a) b a) bs
-
-abbrev pub largest : ℤ → List ℤ → ℤ
-largest a [] = a
-largest a (b ∷ bs) = largest (pick (ltZ a b) b a) bs
-
-abbrev pub spanOf : List ℤ → Bounds
-spanOf [] = record { lower = pos 0; upper = pos 0 }
-spanOf (v ∷ vs) = record { lower = smallest v vs; upper = largest v vs }
-
--- of the n values from v on, those that are not listed, in rising order
-unfoldable pub unlisted : List ℤ → ℕ → ℤ → List ℤ
-unlisted vs zero v = []
-unlisted vs (suc n) v = pick (has vs v) (unlisted vs n (sucℤ v)) (v ∷ unlisted vs n (sucℤ v))
-
--- the values between the smallest and the largest that are not listed
-abbrev pub missing : List ℤ → List ℤ
-missing vs = unlisted vs (width (spanOf vs .lower) (spanOf vs .upper)) (spanOf vs .lower)
-
-abbrev pub isEmpty : List ℤ → Bool
-isEmpty [] = true
-isEmpty (v ∷ vs) = false
 
 -- ---- posts
 
@@ -175,11 +141,6 @@ openStore s = pick (opens (openAnswer s)) (opened s) s
 
 -- ---- synchronise
 
--- a variable and its lower bound before an undo
-pub record Pair : Type 0 where
-  pub variable : ℕ
-  pub lower : ℤ
-
 -- how many entries stand above checkpoint k
 abbrev pub entriesAbove : Assignments → ℕ → ℕ
 entriesAbove s k = s .trail .length - getD (s .delimiters) k 0
@@ -216,16 +177,6 @@ synchroniseStore s k room = pick (synchronises (synchroniseAnswer s k room)) (sy
 -- what it writes to the lent slices: the pairs, or nothing if it is refused
 unfoldable pub pairsOf : Assignments → ℕ → ℕ → List Pair
 pairsOf s k room = pick (synchronises (synchroniseAnswer s k room)) (unfixed (entriesAbove s k) s) []
-
--- a lent slice after a call: the first places are written, the later ones keep their content
-abbrev pub written : {A : Type 0} → List A → List A → List A
-written vs slice = vs ++ drop (length vs) slice
-
-abbrev pub variablesOf : List Pair → List ℕ
-variablesOf ps = map (λ (p : Pair). p .variable) ps
-
-abbrev pub lowersIn : List Pair → List ℤ
-lowersIn ps = map (λ (p : Pair). p .lower) ps
 
 -- ---- an entry of the trail
 

@@ -1,5 +1,3 @@
-pub mod Refusals
-pub mod Words
 pub mod Store
 pub mod Calls
 pub mod Made

@@ -15,23 +15,25 @@ use Rattle.predicates.specs.declared.Reason.{Reason}
 use Rattle.domains.specs.declared.Bounds.{Bounds}
 use Rattle.domains.specs.Domain.{satisfies, member, emptied, overflows}
 use Rattle.domains.specs.Promises.{Tight}
-use Rattle.stores.specs.declared.Refusal.{Refusal}
-use Rattle.stores.specs.declared.GrowAnswer.the-variants as Grow
-use Rattle.stores.specs.declared.PostAnswer.the-variants as Post
-use Rattle.stores.specs.declared.OpenAnswer.the-variants as Open
-use Rattle.stores.specs.declared.SynchroniseAnswer.the-variants as Synchronise
+use Rattle.stories.specs.declared.Refusal.{Refusal}
+use Rattle.stories.specs.declared.GrowAnswer.the-variants as Grow
+use Rattle.stories.specs.declared.PostAnswer.the-variants as Post
+use Rattle.stories.specs.declared.OpenAnswer.the-variants as Open
+use Rattle.stories.specs.declared.SynchroniseAnswer.the-variants as Synchronise
 use Rattle.stores.specs.declared.Grew.{Grew}
 use Rattle.stores.specs.declared.Posted.{Posted}
 use Rattle.stores.specs.declared.Opened.{Opened}
 use Rattle.stores.specs.declared.Synchronised.{Synchronised}
 use Rattle.stores.specs.declared.Assignments.{Assignments}
-use Rattle.stores.specs.Refusals.{numberOf, First}
-use Rattle.stores.specs.Words.{toldOf, reasonOf}
-use Rattle.stores.specs.Words.Told.{ok, refused}
+use Rattle.stories.specs.Refusals.{numberOf, First}
+use Rattle.stories.specs.Words.{toldOf, reasonOf}
+use Rattle.stories.specs.Words.Told.{ok, refused}
 use Rattle.stores.specs.Store.{variableOf, domainOf, entryOf}
-use Rattle.stores.specs.Calls.{growGrounds, growAnswer, growStore, missing, isEmpty, listAnswer, listStore, domainBefore, postGrounds, postAnswer, keeps, postStore, openGrounds, openAnswer, openStore, entriesAbove, synchroniseGrounds, synchroniseAnswer, synchroniseStore, pairsOf}
+use Rattle.stores.specs.Calls.{growGrounds, growAnswer, growStore, listAnswer, listStore, domainBefore, postGrounds, postAnswer, keeps, postStore, openGrounds, openAnswer, openStore, entriesAbove, synchroniseGrounds, synchroniseAnswer, synchroniseStore, pairsOf}
+use Rattle.stories.specs.Calls.{missing, isEmpty}
 use Rattle.stores.specs.Made.{Made, Since}
-use Rattle.stores.specs.Replay.{remains, prunedUpTo}
+use Rattle.stories.specs.Story.{remains}
+use Rattle.stores.specs.Replay.{prunedUpTo}
 use Rattle.stores.specs.Positions.{domainAt}
 
 -- ---- Demand 1: refusals

@@ -13,22 +13,16 @@ use Rattle.predicates.specs.declared.Reason.the-variants.{None}
 use Rattle.domains.specs.declared.Bounds.{Bounds}
 use Rattle.domains.specs.Choice.{pick}
 use Rattle.domains.specs.Domain.{Domain, isNotEqual, prunedBy}
+use Rattle.stories.specs.Story.{noEntry}
 use Rattle.pools.specs.declared.Update.{Update}
 use Rattle.pools.specs.declared.Pool.{Pool}
 use Rattle.pools.specs.Chain.{noUpdate, noUpdates, chainOf, valuesOf}
-use Rattle.stores.specs.declared.Entry.{Entry}
+use Rattle.stories.specs.declared.Entry.{Entry}
 use Rattle.stores.specs.declared.Trail.{Trail}
 use Rattle.stores.specs.declared.Variable.{Variable}
 use Rattle.stores.specs.declared.Assignments.{Assignments}
 
 -- blank places
-abbrev pub noEntry : Entry
-noEntry = record {
-  predicate = record { domain = record { 0 = 0 }; kind = LowerBound; value = pos 0 };
-  old = record { lower = pos 0; upper = pos 0 };
-  reason = None;
-}
-
 abbrev pub noVariable : Variable
 noVariable = record {
   bounds = record { lower = pos 0; upper = pos 0 };

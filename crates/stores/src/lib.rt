@@ -8,17 +8,17 @@ use predicates::DomainId;
 use predicates::Predicate;
 use predicates::Reason;
 use predicates::TrailPosition;
+use stories::Entry;
+use stories::EntryAnswer;
+use stories::GrowAnswer;
+use stories::OpenAnswer;
+use stories::PostAnswer;
+use stories::Refusal;
+use stories::SynchroniseAnswer;
 ghost use mathlib.Core.Path.{_≡_};
-ghost use Rattle.stores.specs.Store.{noEntry, noVariable};
+ghost use Rattle.stores.specs.Store.{noVariable};
 ghost use Rattle.stores.specs.Calls.{fresh, entryAnswer};
 ghost use Rattle.stores.specs.Made.{Made};
-
-// What happened: a predicate, the variable's bounds before it, and why.
-pub struct Entry {
-    pub predicate: Predicate,
-    pub old: Bounds,
-    pub reason: Reason,
-}
 
 // The entries, oldest first; what is past the length is blank.
 pub struct Trail {
@@ -48,18 +48,6 @@ pub struct Assignments {
     pub delimiters: [u16; 256],
     pub checkpoint: usize,
     pub pruned: u64,
-}
-
-impl Entry {
-    pub fn blank() -> Self
-        ensures { λ r. ⌜ r ≡ noEntry ⌝ }
-    {
-        Entry {
-            predicate: Predicate::lower_bound_predicate(DomainId(0), 0),
-            old: Bounds { lower: 0, upper: 0 },
-            reason: Reason::None,
-        }
-    }
 }
 
 impl Variable {
@@ -174,54 +162,6 @@ impl Assignments {
     {
         self.pruned
     }
-}
-
-// Why a call was refused.
-pub enum Refusal {
-    NoVariable,
-    NotRoot,
-    BadDomain,
-    TooManyVariables,
-    TrailFull,
-    StepOverflow,
-    Empty,
-    TooManyCheckpoints,
-    NotLower,
-    NoRoom,
-    NoSuchEntry,
-    NoDecision,
-    NoReason,
-}
-
-// What creating a variable answers.
-pub enum GrowAnswer {
-    Grown(DomainId),
-    Refused(Refusal),
-}
-
-// What a post answers.
-pub enum PostAnswer {
-    Changed,
-    Unchanged,
-    Refused(Refusal),
-}
-
-// What opening a checkpoint answers.
-pub enum OpenAnswer {
-    Opened(Checkpoint),
-    Refused(Refusal),
-}
-
-// What a synchronise answers: how many pairs it wrote.
-pub enum SynchroniseAnswer {
-    Unfixed(usize),
-    Refused(Refusal),
-}
-
-// What asking for an entry answers.
-pub enum EntryAnswer {
-    Found(Entry),
-    Refused(Refusal),
 }
 
 pub struct Grew {

@@ -8,7 +8,8 @@ use mir.Facts.{toZ-ofZ}
 use native.Mathlib.Omega.{arith}
 use Rattle.domains.specs.declared.Bounds.{Bounds}
 use Rattle.stores.specs.declared.Assignments.{Assignments}
-use Rattle.stores.specs.Calls.{spanOf, growAnswer, growStore}
+use Rattle.stories.specs.Calls.{spanOf}
+use Rattle.stores.specs.Calls.{growAnswer, growStore}
 use Rattle.stores.proofs.History.{straight}
 use Rattle.creating.specs.Parts.{between}
 use Rattle.creating.specs.Spans.{Spanned, spanned}

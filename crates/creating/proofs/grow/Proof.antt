@@ -6,7 +6,7 @@ use mir.Facts.{toZ-ofZ}
 use native.Mathlib.Omega.{arith}
 use native.Mathlib.Numerals.{add-one}
 use Rattle.pools.specs.declared.Pool.{Pool}
-use Rattle.stores.specs.Calls.{atLeast, atMost}
+use Rattle.stories.specs.Calls.{atLeast, atMost}
 use Rattle.stores.proofs.Straight.{tidy}
 use Rattle.stores.proofs.History.{straight}
 use Rattle.stores.proofs.Cases.{grow-above, grow-bad, grow-many, grow-full, grow-taken}

@@ -11,7 +11,7 @@ use native.Mathlib.Numerals.{add-one}
 use native.Mathlib.Omega.{arith}
 use borrow.Author.Needs.{needs}
 use Rattle.creating.specs.Spans.{span-first, drop-all}
-use Rattle.stores.specs.Calls.{smallest, largest, spanOf}
+use Rattle.stories.specs.Calls.{smallest, largest, spanOf}
 use Rattle.creating.proofs.span_of.Statement.{statement}
 use Rattle.creating.proofs.span_of.Tie as tie
 

@@ -18,7 +18,7 @@ use Rattle.integers.proofs.Order.{integers, add=, suc=, fits→, →fits}
 use Rattle.domains.specs.declared.Bounds.{Bounds}
 use borrow.Author.Needs.{needs}
 use Rattle.domains.specs.Domain.{has, width}
-use Rattle.stores.specs.Calls.{spanOf}
+use Rattle.stories.specs.Calls.{spanOf}
 use Rattle.creating.specs.Windows.{Told, told-next, told-none, told-as}
 use Rattle.creating.specs.Walks.{Walk, walk-listed, walk-end, walk-full, walk-removes, walk-missing}
 use Rattle.creating.proofs.walk_over.Statement.{statement}

@@ -6,7 +6,7 @@ use native.Mathlib.Omega.{arith}
 use native.Mathlib.Numerals.{add-one}
 use Rattle.pools.specs.declared.Pool.{Pool}
 use Rattle.stores.specs.Store.{variableOf}
-use Rattle.stores.specs.Calls.{notEqual}
+use Rattle.stories.specs.Calls.{notEqual}
 use Rattle.creating.specs.Parts.{withoutReason}
 use Rattle.creating.specs.Dense.{push-comes}
 use Rattle.creating.specs.Walks.{removal, posted-removal}

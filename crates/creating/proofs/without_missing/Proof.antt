@@ -5,7 +5,7 @@ use native.Mathlib.Omega.{arith}
 use Rattle.domains.specs.declared.Bounds.{Bounds}
 use Rattle.domains.specs.Domain.{width}
 use Rattle.domains.proofs.Tests.{clash}
-use Rattle.stores.specs.Calls.{spanOf}
+use Rattle.stories.specs.Calls.{spanOf}
 use Rattle.creating.specs.Covering.{covered}
 use borrow.Author.Needs.{needs}
 use Rattle.creating.proofs.without_missing.Statement.{statement}

@@ -16,8 +16,8 @@ use Rattle.domains.specs.Choice.{pick}
 use Rattle.domains.specs.Domain.{acts, overflows, stepOf}
 use Rattle.pools.specs.declared.Pool.{Pool}
 use Rattle.stores.specs.declared.Variable.{Variable}
-use Rattle.stores.specs.declared.Refusal.the-variants.{TrailFull, StepOverflow}
-use Rattle.stores.specs.declared.PostAnswer.the-variants.{Refused}
+use Rattle.stories.specs.declared.Refusal.the-variants.{TrailFull, StepOverflow}
+use Rattle.stories.specs.declared.PostAnswer.the-variants.{Refused}
 use Rattle.posting.specs.declared.Decision.{Decision}
 use Rattle.posting.specs.declared.Decision.the-variants.{Stays, Moves}
 use Rattle.posting.specs.Answers.{idleAnswer}

@@ -2,8 +2,8 @@
 use mathlib.Core.Path.{_∙_}
 use mathlib.Core.List.{[]}
 use borrow.Author.Needs.{needs}
-use Rattle.questions.specs.declared.answers.ValueAnswer.the-variants.{Refused}
-use Rattle.questions.specs.Answers.{assignedValue}
+use Rattle.stories.specs.declared.ValueAnswer.the-variants.{Refused}
+use Rattle.stories.specs.Questions.{assignedValue}
 use Rattle.questions.proofs.Asking.{few, refuses, answers-now}
 use Rattle.questions.proofs.get_assigned_value.Statement.{statement}
 use Rattle.questions.proofs.get_assigned_value.Tie as tie

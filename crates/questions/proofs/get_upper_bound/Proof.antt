@@ -1,7 +1,7 @@
 -- `get_upper_bound` reads the bound that the variable's record keeps.
 use borrow.Author.Needs.{needs}
-use Rattle.questions.specs.declared.answers.BoundAnswer.the-variants.{Refused}
-use Rattle.questions.specs.Answers.{highest}
+use Rattle.stories.specs.declared.BoundAnswer.the-variants.{Refused}
+use Rattle.stories.specs.Questions.{highest}
 use Rattle.questions.proofs.Reading.{read}
 use Rattle.questions.proofs.Asking.{few, refuses, answers-now}
 use Rattle.questions.proofs.get_upper_bound.Statement.{statement}

@@ -1,9 +1,9 @@
 -- `is_predicate_falsified` says yes where the truth now is false.
 use mathlib.Core.Path.{refl, ap, _∙_}
 use borrow.Author.Needs.{needs}
-use Rattle.questions.specs.declared.answers.TruthAnswer.the-variants as Told
-use Rattle.questions.specs.declared.answers.YesNo.the-variants as Yes
-use Rattle.questions.specs.Answers.{ifFalse}
+use Rattle.stories.specs.declared.TruthAnswer.the-variants as Told
+use Rattle.stories.specs.declared.YesNo.the-variants as Yes
+use Rattle.stories.specs.Questions.{ifFalse}
 use Rattle.questions.proofs.Asking.{passed}
 use Rattle.questions.proofs.is_predicate_falsified.Statement.{statement}
 use Rattle.questions.proofs.is_predicate_falsified.Tie as tie

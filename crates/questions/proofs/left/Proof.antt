@@ -1,9 +1,9 @@
 -- `left` counts the values from lower to upper.
 use mathlib.Core.Path.{ap, _∙_}
 use borrow.Author.Needs.{needs}
-use Rattle.questions.specs.declared.answers.LeftAnswer.the-variants.{Left, Refused}
+use Rattle.stories.specs.declared.LeftAnswer.the-variants.{Left, Refused}
 use Rattle.questions.specs.Parts.{holesIn}
-use Rattle.questions.specs.Answers.{left}
+use Rattle.stories.specs.Questions.{left}
 use Rattle.questions.proofs.Asking.{few, refuses, answers-now}
 use Rattle.questions.proofs.left.Statement.{statement}
 use Rattle.questions.proofs.left.Tie as tie

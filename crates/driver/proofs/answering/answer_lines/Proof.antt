@@ -14,17 +14,18 @@ use denote.Ref.{now}
 use Rattle.predicates.specs.declared.Predicate.{Predicate}
 use Rattle.predicates.specs.Counts.{counted}
 use Rattle.domains.specs.Choice.{pick}
-use Rattle.stores.specs.declared.Refusal.the-variants.{NoVariable}
+use Rattle.stories.specs.declared.Refusal.the-variants.{NoVariable}
 use Rattle.stores.specs.Store.{noVariable, variableOf, domainOf}
 use Rattle.stores.specs.Positions.{domainAt}
-use Rattle.stores.specs.Calls.{growAnswer, growStore, openAnswer, listAnswer, listStore, postAnswer, postStore, synchroniseAnswer, synchroniseStore, pairsOf, written, variablesOf, lowersIn}
+use Rattle.stores.specs.Calls.{growAnswer, growStore, openAnswer, listAnswer, listStore, postAnswer, postStore, synchroniseAnswer, synchroniseStore, pairsOf}
+use Rattle.stories.specs.Calls.{written, variablesIn, lowersIn}
 use Rattle.stores.specs.Made.{Made}
 use Rattle.stores.specs.Made.Made.{grow as made-grow, list as made-list, post as made-post, openNext as made-open, synchronise as made-back}
 use Rattle.stores.proofs.Straight.{tidy}
 use Rattle.stores.proofs.History.{straight}
 use Rattle.posting.proofs.Deciding.{reads-sound, stays-tell}
-use Rattle.questions.specs.declared.answers.TruthAnswer.the-variants.{Refused}
-use Rattle.questions.specs.Answers.{truth}
+use Rattle.stories.specs.declared.TruthAnswer.the-variants.{Refused}
+use Rattle.stories.specs.Questions.{truth}
 use Rattle.commands.specs.Values.{valuesOf}
 use Rattle.commands.specs.declared.command.Command.the-variants as command
 use Rattle.commands.proofs.RoomLaws.{list-whole}
@@ -342,7 +343,7 @@ did-here c =
           (made-back (made (c .before)) _ 1024)
           (λ number.
           (λ i. replyText number ((w .14 ∙ w .10 .ensures ∙ ap synchroniseReply (w .6 .ensures .answer ∙ (λ j. synchroniseAnswer s (w .3 .ensures j) (room j)))) i)
-          ((w .12 ∙ w .6 .ensures .variables ∙ (λ j. written (variablesOf (pairsOf s (w .3 .ensures j) (room j))) (turn (c .before) .loop .variables))) i)
+          ((w .12 ∙ w .6 .ensures .variables ∙ (λ j. written (variablesIn (pairsOf s (w .3 .ensures j) (room j))) (turn (c .before) .loop .variables))) i)
           ((w .13 ∙ w .6 .ensures .lowers ∙ (λ j. written (lowersIn (pairsOf s (w .3 .ensures j) (room j))) (turn (c .before) .loop .lowers))) i))
           ∙ back-shows s _ number _ _),
       ap length (w .12) ∙ search needs,

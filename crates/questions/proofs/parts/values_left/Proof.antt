@@ -2,7 +2,7 @@
 use borrow.Author.Needs.{needs}
 use Rattle.integers.proofs.Order.{integers}
 use Rattle.pools.proofs.RunLaws.{apart}
-use Rattle.questions.specs.Answers.{leftOf}
+use Rattle.stories.specs.Questions.{leftOf}
 use Rattle.questions.proofs.Reading.{read}
 use Rattle.questions.proofs.parts.values_left.Statement.{statement}
 use Rattle.questions.proofs.parts.values_left.Tie as tie

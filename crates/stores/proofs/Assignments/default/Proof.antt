@@ -17,7 +17,7 @@ use Rattle.pools.proofs.Pool.empty.Reads as empty-reads
 use Rattle.pools.proofs.Pool.push.Reads as push-reads
 use Rattle.predicates.proofs.Predicate.lower_bound_predicate.Reads as lower-bound-predicate-reads
 use Rattle.predicates.proofs.Predicate.upper_bound_predicate.Reads as upper-bound-predicate-reads
-use Rattle.stores.proofs.Entry.blank.Reads as Entry-blank-reads
+use Rattle.stories.proofs.Entry.blank.Reads as blank-reads
 use Rattle.stores.proofs.Variable.blank.Reads as Variable-blank-reads
 
 -- src/lib.rt:76:13

@@ -1,7 +1,7 @@
 -- `Entry::blank` is the blank entry, by what the predicate's constructor says.
 use borrow.Author.Needs.{needs}
-use Rattle.stores.proofs.Entry.blank.Statement.{statement}
-use Rattle.stores.proofs.Entry.blank.Tie as tie
+use Rattle.stories.proofs.Entry.blank.Statement.{statement}
+use Rattle.stories.proofs.Entry.blank.Tie as tie
 use Rattle.predicates.proofs.Predicate.lower_bound_predicate.Reads as lower-bound-predicate-reads
 
 -- src/lib.rt:53:28

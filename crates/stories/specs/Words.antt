@@ -3,9 +3,9 @@ use Prim.Native.Nat.{ℕ}
 use mathlib.Core.List.{List, [], _∷_}
 use Rattle.predicates.specs.declared.Reason.{Reason}
 use Rattle.predicates.specs.declared.Reason.the-variants.{None, Given}
-use Rattle.stores.specs.declared.PostAnswer.{PostAnswer}
-use Rattle.stores.specs.declared.PostAnswer.the-variants.{Changed, Unchanged, Refused}
-use Rattle.stores.specs.Refusals.{numberOf}
+use Rattle.stories.specs.declared.PostAnswer.{PostAnswer}
+use Rattle.stories.specs.declared.PostAnswer.the-variants.{Changed, Unchanged, Refused}
+use Rattle.stories.specs.Refusals.{numberOf}
 
 -- taken, with a number, or refused by number
 pub data Told : Type 0 where

@@ -4,8 +4,8 @@ use mathlib.Core.Bool.{Bool, true, false}
 use mathlib.Core.Path.{_≡_}
 use mathlib.Core.List.{List, [], _∷_}
 use Rattle.domains.specs.Choice.{pick}
-use Rattle.stores.specs.declared.Refusal.{Refusal}
-use Rattle.stores.specs.declared.Refusal.the-variants.{NoVariable, NotRoot, BadDomain, TooManyVariables, TrailFull, StepOverflow, Empty, TooManyCheckpoints, NotLower, NoRoom, NoSuchEntry, NoDecision, NoReason}
+use Rattle.stories.specs.declared.Refusal.{Refusal}
+use Rattle.stories.specs.declared.Refusal.the-variants.{NoVariable, NotRoot, BadDomain, TooManyVariables, TrailFull, StepOverflow, Empty, TooManyCheckpoints, NotLower, NoRoom, NoSuchEntry, NoDecision, NoReason}
 
 -- each refusal's number
 abbrev pub numberOf : Refusal → ℕ
@@ -27,6 +27,9 @@ numberOf NoReason = 13
 pub record Ground : Type 0 where
   pub holds : Bool
   pub refusal : Refusal
+
+abbrev pub ground : Refusal → Bool → Ground
+ground r b = record { holds = b; refusal = r }
 
 -- what a call answers: the first refusal of which the test holds, or else its own answer
 abbrev pub decided : {A : Type 0} → (Refusal → A) → List Ground → A → A
