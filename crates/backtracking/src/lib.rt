@@ -1,4 +1,6 @@
 // Opening a checkpoint, and going back to one. Relies on integers, predicates, domains, pools and stores.
+#![tactic(auto)]
+
 ghost use Rattle.std.specs.Prelude.{◌≡◌, ◌-◌, ◌≤◌, ◌<◌, min, length};
 ghost use Rattle.domains.specs.Choice.{pick};
 ghost use Rattle.domains.specs.Domain.{pruned_by};
@@ -76,7 +78,7 @@ fn differ(a: i32, b: i32) -> bool
 }
 
 // What undoing an entry takes from the histories: an update of the lower bound, one of the upper bound, a hole.
-#[derive(Drop)]
+#[derive(Clone, Copy)]
 struct Traces {
     lower: bool,
     upper: bool,

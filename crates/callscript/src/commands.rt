@@ -5,7 +5,7 @@ use lines::{Integer, Natural};
 use predicates::{Predicate, Reason};
 
 // A call, or no line that can be read. The values of a list lie beside the command.
-#[derive(Drop)]
+#[derive(Clone, Copy)]
 pub enum Command {
     Bad,
     Fresh,
@@ -32,7 +32,7 @@ pub enum Command {
 }
 
 // A question about the store as a whole, or about an entry of its trail.
-#[derive(Drop)]
+#[derive(Clone, Copy)]
 pub enum Look {
     Checkpoint,
     Domains,

@@ -8,7 +8,7 @@ use predicates::{DomainId, Predicate, PredicateType, Reason};
 pub const MOST_ROOM: usize = 1024;
 
 // Places that a line lends.
-#[derive(Drop)]
+#[derive(Clone, Copy)]
 pub enum Room {
     Places(usize),
     Bad,
@@ -26,19 +26,19 @@ pub fn read_room(field: &[u8]) -> Room {
 }
 
 // A predicate that three fields spell.
-#[derive(Drop)]
+#[derive(Clone, Copy)]
 pub enum Spelt {
     Claim(Predicate),
     Bad,
 }
 
-#[derive(Drop)]
+#[derive(Clone, Copy)]
 enum Operator {
     Kind(PredicateType),
     Bad,
 }
 
-#[derive(Drop)]
+#[derive(Clone, Copy)]
 pub enum Cause {
     Reason(Reason),
     Bad,

@@ -1,5 +1,7 @@
 // Answers the lines of standard input, each a public call of the store (docs/CALLS.md), as the Rust's oracle does.
 // Relies on all crates of the store, on lines for the text, and on io and libc.
+#![tactic(auto)]
+
 mod answers;
 mod commands;
 mod fields;

@@ -15,7 +15,7 @@ use stores::Assignments;
 use stories::{BoundAnswer, LeftAnswer, TruthAnswer, ValueAnswer, YesNo};
 
 // What the store answered.
-#[derive(Drop)]
+#[derive(Clone, Copy)]
 pub enum Answer {
     Bound(BoundAnswer),
     YesNo(YesNo),

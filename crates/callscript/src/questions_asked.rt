@@ -4,7 +4,7 @@ use lines::{Integer, Natural};
 use predicates::{DomainId, Predicate, TrailPosition};
 
 // A question about a variable now, at its creation, or at a position of the trail.
-#[derive(Drop)]
+#[derive(Clone, Copy)]
 pub enum Question {
     Lower(DomainId),
     Upper(DomainId),
@@ -26,7 +26,7 @@ pub enum Question {
 }
 
 // The question of a line, or none that can be read.
-#[derive(Drop)]
+#[derive(Clone, Copy)]
 pub enum Asked {
     Question(Question),
     Bad,

@@ -5,7 +5,7 @@ use libc::STDIN_FILENO;
 
 // Where reading stands. Of the piece the bytes from `at` to `end` are yet to be taken; of the line `length` bytes have been,
 // and `long` says that it had no room for more.
-#[derive(Drop)]
+#[derive(Clone, Copy)]
 pub struct Reader {
     pub at: usize,
     pub end: usize,

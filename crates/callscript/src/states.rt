@@ -8,7 +8,7 @@ use predicates::TrailPosition;
 use stores::{Assignments, Trail, Variable};
 
 // The checkpoints that are open: the first `count` delimiters.
-#[derive(Drop)]
+#[derive(Clone, Copy)]
 struct Opened {
     delimiters: [u16; 256],
     count: usize,
@@ -35,7 +35,7 @@ fn checkpoint_of(opened: Opened, position: u16) -> u64 {
 }
 
 // A variable's own updates, newest first.
-#[derive(Drop)]
+#[derive(Clone, Copy)]
 struct Chain {
     updates: [Update; 1024],
     count: usize,
@@ -141,7 +141,7 @@ fn put_updates(
 }
 
 // Which bounds moved at which positions.
-#[derive(Drop)]
+#[derive(Clone, Copy)]
 struct Moved {
     lower: [bool; 1025],
     upper: [bool; 1025],

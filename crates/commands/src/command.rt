@@ -9,7 +9,7 @@ use lines::{Integer, Natural, field, field_count, is_word, read_integer, read_na
 use predicates::{PredicateType, Reason};
 
 // What a line asks for. A `List` has its values in the line (`list_values`); a `Bad` line is none that can be read.
-#[derive(Drop)]
+#[derive(Clone, Copy)]
 pub enum Command {
     Var {
         lower: i32,

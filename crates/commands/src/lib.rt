@@ -1,5 +1,7 @@
 // Which line of the driver `trailscript` is which command (RULES.md, D2 to D8).
 // Every function takes everything: none has a `requires`. Relies on predicates and lines.
+#![tactic(auto)]
+
 mod command;
 mod list;
 mod parts;

@@ -7,21 +7,21 @@ use lines::{Integer, Natural, field, is_word, read_integer, read_natural};
 use predicates::{PredicateType, Reason};
 
 // A kind that was spelt.
-#[derive(Drop)]
+#[derive(Clone, Copy)]
 pub enum Kind {
     Known(PredicateType),
     Bad,
 }
 
 // A reason that was spelt, be it none.
-#[derive(Drop)]
+#[derive(Clone, Copy)]
 pub enum Cause {
     Known(Reason),
     Bad,
 }
 
 // A predicate whose three fields were spelt.
-#[derive(Drop)]
+#[derive(Clone, Copy)]
 pub enum Claim {
     Known {
         id: u32,

@@ -1,4 +1,6 @@
 // The calls that create a variable: from two bounds, and from a list of values. Relies on stores and all below it.
+#![tactic(auto)]
+
 ghost use Rattle.std.specs.Prelude.{◌≡◌, true, ◌+◌, ◌<◌, length, ◌≤ℤ◌};
 ghost use Rattle.std.specs.Int.Signed.{lt_z};
 ghost use Rattle.predicates.specs.declared.Reason.TheVariants.{None};
@@ -175,7 +177,7 @@ fn without(mut store: Assignments, id: DomainId, value: i32) -> Assignments
 }
 
 // What is left after the removals, and whether the trail was too short for them.
-#[derive(Drop)]
+#[derive(Clone, Copy)]
 struct Removed {
     store: Assignments,
     full: bool,

@@ -1,19 +1,21 @@
 // What a post makes of a variable's bounds, and what it adds to the count. The meaning is in specs/: Domain.antt has the
 // rules, Laws.antt the set law. Relies on integers and predicates.
+#![tactic(auto)]
+
 ghost use Rattle.std.specs.Prelude.{◌≡◌};
 ghost use Rattle.domains.specs.Domain.{is_not_equal, pruned_by};
 
 use predicates::PredicateType;
 
 // The least and the greatest value that may be left; none is left where lower > upper.
-#[derive(Drop)]
+#[derive(Clone, Copy)]
 pub struct Bounds {
     pub lower: i32,
     pub upper: i32,
 }
 
 // What a post comes to, before anything is recorded.
-#[derive(Drop)]
+#[derive(Clone, Copy)]
 pub enum Step {
     // It does nothing.
     Nothing,

@@ -18,7 +18,7 @@ const LONGEST_ANSWER: usize = 34000;
 const BAD_LINE: u8 = 14;
 
 // After some lines: the store, the number of the next line, how many bytes were read, and how many were written.
-#[derive(Drop)]
+#[derive(Clone, Copy)]
 pub struct Answered {
     pub store: Assignments,
     pub number: u64,

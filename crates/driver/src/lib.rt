@@ -1,5 +1,7 @@
 // The driver `trailscript` on slices (RULES.md, "The driver `trailscript`"): bytes and a store in, the answers' bytes and the store out.
 // Relies on all crates of the store, on commands for what a line says, and on replies for what is printed.
+#![tactic(auto)]
+
 mod answering;
 mod lines_of;
 mod questions_of;

@@ -1,4 +1,6 @@
 // The distance of two i32, which Rust calls `abs_diff`. Relies on nothing but std.
+#![tactic(auto)]
+
 ghost use Rattle.std.specs.Prelude.{◌≡◌};
 ghost use Rattle.integers.specs.Distance.{distance, wrapped};
 

@@ -1,5 +1,7 @@
 // The text of a line: its fields, the words and numbers that they spell, and numbers written as text (RULES.md, D3 and D4).
 // Every function takes everything: none has a `requires`. Relies on nothing but std.
+#![tactic(auto)]
+
 mod fields;
 mod numbers;
 mod writing;

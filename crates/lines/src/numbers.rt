@@ -3,14 +3,14 @@ ghost use Rattle.std.specs.Prelude.{◌≡◌};
 ghost use Rattle.lines.specs.Reading.{read_natural, read_digits, read_integer, from_above, from_below};
 
 // A u32 that was spelt.
-#[derive(Drop)]
+#[derive(Clone, Copy)]
 pub enum Natural {
     Number(u32),
     Bad,
 }
 
 // An i32 that was spelt.
-#[derive(Drop)]
+#[derive(Clone, Copy)]
 pub enum Integer {
     Number(i32),
     Bad,

@@ -1,5 +1,7 @@
 // The pool of updates that all variables share, and the walks along one variable's own. A pool knows no rule of the store.
 // Relies on integers, predicates and domains.
+#![tactic(auto)]
+
 ghost use Rattle.std.specs.Prelude.{◌≡◌, true, pos, negsuc, ◌<ℤ◌};
 ghost use Rattle.domains.specs.Domain.{has, width, raised, lowered};
 ghost use Rattle.pools.specs.Chain.{no_update, no_updates, pushed, values_of, chain_of, up_to, newest_or};
@@ -9,7 +11,7 @@ use predicates::TrailPosition;
 
 // A bound that moved, or a value that was removed: the value, the entry that did it, and the variable's update before
 // it, counted from 1, with 0 for none.
-#[derive(Drop)]
+#[derive(Clone, Copy)]
 pub struct Update {
     pub value: i32,
     pub position: TrailPosition,
@@ -17,7 +19,7 @@ pub struct Update {
 }
 
 // Updates of all variables, in the order of the trail; what is past the length is blank.
-#[derive(Drop)]
+#[derive(Clone, Copy)]
 pub struct Pool {
     pub updates: [Update; 1024],
     pub length: usize,

@@ -1,4 +1,6 @@
 // The post: a predicate with its reason, made part of the store. Relies on rules for what it comes to, and on stores.
+#![tactic(auto)]
+
 ghost use Rattle.std.specs.Prelude.{◌≡◌, ◌<◌};
 ghost use Rattle.rules.specs.Sound.{domain_in, Sound};
 ghost use Rattle.stores.specs.Calls.{post_answer, post_store};
@@ -13,7 +15,7 @@ use stores::{Assignments, Posted, Variable};
 use stories::{Entry, PostAnswer, Refusal};
 
 // What a post comes to: an answer that leaves the store as it is, or bounds that are to be recorded.
-#[derive(Drop)]
+#[derive(Clone, Copy)]
 pub enum Decision {
     Stays(PostAnswer),
     Moves(Bounds),

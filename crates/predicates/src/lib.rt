@@ -1,19 +1,21 @@
 // What a post is made of: the three kinds of count, the kind of a predicate, the predicate, the reason.
 // Relies on nothing.
+#![tactic(auto)]
+
 ghost use Rattle.std.specs.Prelude.{◌≡◌};
 ghost use Rattle.predicates.specs.Codes.{code_of};
 ghost use Rattle.predicates.specs.Counts.{counted};
 
 // A variable's number.
-#[derive(Drop)]
+#[derive(Clone, Copy)]
 pub struct DomainId(pub u16);
 
 // A checkpoint's number; 0 is the root.
-#[derive(Drop)]
+#[derive(Clone, Copy)]
 pub struct Checkpoint(pub u16);
 
 // A place on the trail.
-#[derive(Drop)]
+#[derive(Clone, Copy)]
 pub struct TrailPosition(pub u16);
 
 fn clipped(number: u32) -> u16
@@ -47,7 +49,7 @@ impl TrailPosition {
 }
 
 // The four kinds; a value of this type has no fifth code.
-#[derive(Drop)]
+#[derive(Clone, Copy)]
 pub enum PredicateType {
     LowerBound,
     NotEqual,
@@ -77,7 +79,7 @@ impl PredicateType {
 }
 
 // A claim about one variable: at least, not, equal to or at most `value`.
-#[derive(Drop)]
+#[derive(Clone, Copy)]
 pub struct Predicate {
     pub domain: DomainId,
     pub kind: PredicateType,
@@ -127,7 +129,7 @@ impl Predicate {
 }
 
 // Why an entry is on the trail: nothing, or the number that the host gave.
-#[derive(Drop)]
+#[derive(Clone, Copy)]
 pub enum Reason {
     None,
     Given(u32),

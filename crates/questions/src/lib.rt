@@ -1,5 +1,7 @@
 // The questions about a variable, now and at a position of the trail, by Pumpkin's names. Each reads the variable's record
 // and asks a function of parts.rt. Relies on integers, predicates, domains, pools and stores.
+#![tactic(auto)]
+
 mod answers;
 mod parts;
 

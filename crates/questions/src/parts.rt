@@ -13,7 +13,7 @@ use stores::Variable;
 use stories::{TruthAnswer, ValueAnswer};
 
 // A variable's record, if there is such a variable.
-#[derive(Drop)]
+#[derive(Clone, Copy)]
 pub enum Found {
     Record(Variable),
     Nothing,

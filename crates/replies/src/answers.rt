@@ -6,7 +6,7 @@ ghost use Rattle.replies.specs.Replies.{grow_reply, post_reply, open_reply, sync
 use stories::{GrowAnswer, OpenAnswer, PostAnswer, Refusal, SynchroniseAnswer, TruthAnswer};
 
 // What is printed after the line's number. A `Pairs` has its pairs in two slices.
-#[derive(Drop)]
+#[derive(Clone, Copy)]
 pub enum Reply {
     Number(u64),
     Pairs(usize),

@@ -1,5 +1,7 @@
 // What the driver `trailscript` prints for a line (RULES.md, D6 and D9): the answers of the calls as replies, and a reply as text.
 // Every function takes everything: none has a `requires`. Relies on predicates, lines, stores and questions.
+#![tactic(auto)]
+
 mod answers;
 mod writing;
 

@@ -1,5 +1,7 @@
 // What a post comes to, decided on small values before anything is recorded: the four ways in which Pumpkin changes a
 // domain. Relies on predicates, domains and pools; the store is not known here.
+#![tactic(auto)]
+
 ghost use Rattle.std.specs.Prelude.{◌≡◌};
 ghost use Rattle.domains.specs.Domain.{step_of};
 ghost use Rattle.rules.specs.Sound.{domain_in, Sound};

@@ -1,5 +1,7 @@
 // The store: its records, its capacities, a fresh one, and the answers of its calls. What each call does to it is said
 // in specs/, and what every store obeys that calls made. Relies on predicates, domains and pools.
+#![tactic(auto)]
+
 ghost use Rattle.std.specs.Prelude.{◌≡◌};
 ghost use Rattle.stores.specs.Store.{no_variable};
 ghost use Rattle.stores.specs.Calls.{fresh, entry_answer};
@@ -11,7 +13,7 @@ use predicates::{Checkpoint, DomainId, Predicate, Reason, TrailPosition};
 use stories::{Entry, EntryAnswer, GrowAnswer, OpenAnswer, PostAnswer, Refusal, SynchroniseAnswer};
 
 // The entries, oldest first; what is past the length is blank.
-#[derive(Drop)]
+#[derive(Clone, Copy)]
 pub struct Trail {
     pub entries: [Entry; 1024],
     pub length: usize,
@@ -19,7 +21,7 @@ pub struct Trail {
 
 // A variable: its bounds now and at first, the links to its newest lower update, upper update and hole, and
 // `initial_bounds_below_trail`, the last position of its creation.
-#[derive(Drop)]
+#[derive(Clone, Copy)]
 pub struct Variable {
     pub bounds: Bounds,
     pub initial: Bounds,
@@ -30,7 +32,7 @@ pub struct Variable {
 }
 
 // The store. The delimiters are the trail's lengths at which the open checkpoints were opened.
-#[derive(Drop)]
+#[derive(Clone, Copy)]
 pub struct Assignments {
     pub trail: Trail,
     pub lower: Pool,
@@ -157,25 +159,25 @@ impl Assignments {
     }
 }
 
-#[derive(Drop)]
+#[derive(Clone, Copy)]
 pub struct Grew {
     pub store: Assignments,
     pub answer: GrowAnswer,
 }
 
-#[derive(Drop)]
+#[derive(Clone, Copy)]
 pub struct Posted {
     pub store: Assignments,
     pub answer: PostAnswer,
 }
 
-#[derive(Drop)]
+#[derive(Clone, Copy)]
 pub struct Opened {
     pub store: Assignments,
     pub answer: OpenAnswer,
 }
 
-#[derive(Drop)]
+#[derive(Clone, Copy)]
 pub struct Synchronised {
     pub store: Assignments,
     pub answer: SynchroniseAnswer,

@@ -1,6 +1,8 @@
 // What is told of a store: an entry of its trail, why a call is refused, what the calls and the questions answer. The story that these
 // make up, what each call does to it and answers, and what is promised of it are in specs/: a reader believes that and nothing below it.
 // Relies on predicates and domains.
+#![tactic(auto)]
+
 ghost use Rattle.std.specs.Prelude.{◌≡◌};
 ghost use Rattle.stories.specs.Story.{no_entry};
 
@@ -8,14 +10,14 @@ use domains::Bounds;
 use predicates::{Checkpoint, DomainId, Predicate, Reason};
 
 // A predicate and why it is posted.
-#[derive(Drop)]
+#[derive(Clone, Copy)]
 pub struct Post {
     pub predicate: Predicate,
     pub reason: Reason,
 }
 
 // What happened: a predicate, the variable's bounds before it, and why.
-#[derive(Drop)]
+#[derive(Clone, Copy)]
 pub struct Entry {
     pub predicate: Predicate,
     pub old: Bounds,
@@ -36,7 +38,7 @@ impl Entry {
 }
 
 // Why a call was refused.
-#[derive(Drop)]
+#[derive(Clone, Copy)]
 pub enum Refusal {
     NoVariable,
     NotRoot,
@@ -56,14 +58,14 @@ pub enum Refusal {
 // ---- what the calls that change a store answer
 
 // Creating a variable.
-#[derive(Drop)]
+#[derive(Clone, Copy)]
 pub enum GrowAnswer {
     Grown(DomainId),
     Refused(Refusal),
 }
 
 // A post.
-#[derive(Drop)]
+#[derive(Clone, Copy)]
 pub enum PostAnswer {
     Changed,
     Unchanged,
@@ -71,14 +73,14 @@ pub enum PostAnswer {
 }
 
 // Opening a checkpoint.
-#[derive(Drop)]
+#[derive(Clone, Copy)]
 pub enum OpenAnswer {
     Opened(Checkpoint),
     Refused(Refusal),
 }
 
 // A synchronise: how many pairs it wrote.
-#[derive(Drop)]
+#[derive(Clone, Copy)]
 pub enum SynchroniseAnswer {
     Unfixed(usize),
     Refused(Refusal),
@@ -87,14 +89,14 @@ pub enum SynchroniseAnswer {
 // ---- what the questions answer
 
 // A bound.
-#[derive(Drop)]
+#[derive(Clone, Copy)]
 pub enum BoundAnswer {
     Bound(i32),
     Refused(Refusal),
 }
 
 // Yes or no.
-#[derive(Drop)]
+#[derive(Clone, Copy)]
 pub enum YesNo {
     Yes,
     No,
@@ -102,7 +104,7 @@ pub enum YesNo {
 }
 
 // The assigned value; `Unassigned` is the rules' none.
-#[derive(Drop)]
+#[derive(Clone, Copy)]
 pub enum ValueAnswer {
     Assigned(i32),
     Unassigned,
@@ -110,7 +112,7 @@ pub enum ValueAnswer {
 }
 
 // The truth of a predicate.
-#[derive(Drop)]
+#[derive(Clone, Copy)]
 pub enum TruthAnswer {
     True,
     False,
@@ -119,14 +121,14 @@ pub enum TruthAnswer {
 }
 
 // How many values are left.
-#[derive(Drop)]
+#[derive(Clone, Copy)]
 pub enum LeftAnswer {
     Left(u64),
     Refused(Refusal),
 }
 
 // An entry of the trail.
-#[derive(Drop)]
+#[derive(Clone, Copy)]
 pub enum EntryAnswer {
     Found(Entry),
     Refused(Refusal),

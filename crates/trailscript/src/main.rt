@@ -1,4 +1,6 @@
 // The driver `trailscript`: reads lines from standard input and prints an answer for each to standard output, in constant memory.
+#![tactic(auto)]
+
 ghost use Rattle.std.specs.Prelude.{ℕ, ◌+◌, ◌-◌, ◌<◌, ◌≤◌, ◌≡◌, length, get_or};
 
 use driver::{answer_lines, line_end};
