@@ -3,7 +3,7 @@
 use Prim.Native.Nat.{◌<◌, ◌≤◌}
 use mathlib.Core.Path.{◌≡◌, refl}
 use mathlib.Core.Bool.{true, false, ◌&&◌}
-use lib.IntN.{ℤ, pos, negsuc, suc_ℤ, pred_ℤ, neg_ℤ, ◌-ℤ◌}
+use lib.IntN.{ℤ, suc_ℤ, pred_ℤ, neg_ℤ, ◌-ℤ◌}
 use lib.Signed.{lt_z, ◌≤ℤ◌, ◌<ℤ◌}
 use native.Mathlib.Omega.{arith}
 use mir.Syntax.{w32}

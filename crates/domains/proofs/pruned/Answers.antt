@@ -1,0 +1,37 @@
+-- `pruned` sums the two distances; where they are 0, a not-equal counts one.
+use Prim.Native.Nat.{◌+◌}
+use mathlib.Core.Path.{◌≡◌, ◌∙◌, sym}
+use mir.Syntax.{w32}
+use mir.Val.{SFits}
+use mir.Facts.{to_z-of_z}
+use native.Mathlib.Omega.{arith}
+use Rattle.integers.specs.Distance.{distance}
+use Rattle.domains.proofs.Tests.{clash}
+use Rattle.domains.proofs.Counting.{moved, counts_one, counts_moved}
+use Rattle.domains.proofs.pruned.Goals as goal
+use Rattle.domains.proofs.pruned.Goals.{After-wide-above}
+
+sum : (c : After-wide-above) → c.wide-below.result + c.wide-above.result ≡ moved c.args.kind c.args.from c.args.to
+sum c =
+    let from = c.args.from in
+    let to = c.args.to in
+    let fl : SFits w32 from.lower = record { sfits = c.struct_told-1.given.0.1 } in
+    let fu : SFits w32 from.upper = record { sfits = c.struct_told-1.given.1.0.1 } in
+    let tl : SFits w32 to.lower = record { sfits = c.struct_told-2-1.given.0.1 } in
+    let tu : SFits w32 to.upper = record { sfits = c.struct_told-2-1.given.1.0.1 } in
+    let below : c.wide-below.result ≡ distance from.lower to.lower = c.wide-below.ensures ∙ (simp (to_z-of_z fl, to_z-of_z tl) at c.abs_diff.ensures) in
+    let above : c.wide-above.result ≡ distance from.upper to.upper = c.wide-above.ensures ∙ (simp (to_z-of_z fu, to_z-of_z tu) at c.abs_diff-2.ensures) in
+    omega arith
+
+pub returns-then-is_not_equal_predicate : goal.returns-then-is_not_equal_predicate
+returns-then-is_not_equal_predicate c =
+    counts_one c.args.kind c.args.from c.args.to (sym (sum (goal.at.returns-then-is_not_equal_predicate c).After-wide-above) ∙ c.if-moved-eq0.true) (sym c.is_not_equal_predicate.ensures ∙ c.if-is_not_equal_predicate.true)
+
+pub returns-else-is_not_equal_predicate : goal.returns-else-is_not_equal_predicate
+returns-else-is_not_equal_predicate c =
+    sum (goal.at.returns-else-is_not_equal_predicate c).After-wide-above
+    ∙ counts_moved c.args.kind c.args.from c.args.to (λ n z. clash n (sym c.is_not_equal_predicate.ensures ∙ c.if-is_not_equal_predicate.false))
+
+pub returns-else-moved-eq0 : goal.returns-else-moved-eq0
+returns-else-moved-eq0 c =
+    sum (goal.at.returns-else-moved-eq0 c).After-wide-above ∙ counts_moved c.args.kind c.args.from c.args.to (λ n z. c.if-moved-eq0.false (sum (goal.at.returns-else-moved-eq0 c).After-wide-above ∙ z))
