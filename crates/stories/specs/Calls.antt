@@ -25,7 +25,7 @@ use Rattle.stories.specs.declared.SynchroniseAnswer.{SynchroniseAnswer}
 use Rattle.stories.specs.declared.SynchroniseAnswer.TheVariants as Synchronise
 use Rattle.stories.specs.Capacities.{max_variables, max_entries, max_checkpoints}
 use Rattle.stories.specs.Refusals.{number_of, Ground, ground, decided}
-use Rattle.stories.specs.Story.{Started, Story, State, bounds_of, domain_now, pruned, start_above, entries_above, Pair, pairs_above}
+use Rattle.stories.specs.Story.{Story, State, bounds_of, domain_now, pruned, start_above, entries_above, Pair, pairs_above}
 
 -- a creation from bounds or from a list, a post, a new checkpoint, and a synchronise to a checkpoint with so much room for pairs
 pub data Call : Type 0 where
