@@ -104,16 +104,16 @@ module _ (remain : ℤ → Bool) (d : Domain) (t : Tight d) (is : (v : ℤ) → 
 pub position_law : PositionLaw
 unfolding said
 position_law s made x p there =
-    let law = Stores.position-law s made x p there in
+    let law = Stores.position_law s made x p there in
     rw (lt-leb _ _ there) (about (remains_at s x p) (domain_at s x p) law.1 law.0)
 
 pub now_law : NowLaw
 unfolding said
 now_law s made x there =
-    rw (lt-leb _ _ there) (about (remains_now s x) (domain_of s x) (Stores.bounds-law s made x there).0 (Stores.replay-law s made x there))
+    rw (lt-leb _ _ there) (about (remains_now s x) (domain_of s x) (Stores.bounds_law s made x there).0 (Stores.replay_law s made x there))
 
 pub past_law : PastLaw
 unfolding said
 past_law s made x p late =
     by_cases (leb s.domains x) (λ e. rw e)
-    (λ e. let same = (Stores.position-law s made x p (leb-false _ _ e)).2 late in rw (e, same))
+    (λ e. let same = (Stores.position_law s made x p (leb-false _ _ e)).2 late in rw (e, same))

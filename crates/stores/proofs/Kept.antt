@@ -63,6 +63,7 @@ never e = absurd (omega arith)
 -- one law for every list of refusals, whatever an answer is that refuses
 module _ {A : Type 0} (refused : Refusal → A) (answer : A) (told : (q r : Refusal) → refused q ≡ refused r → q ≡ r) (other : (r : Refusal) → answer ≡ refused r → ⊥) where
   first_holds : (gs : List Ground) (r : Refusal) → First gs r → decided refused gs answer ≡ refused r
+  first_holds [] r none = elim none [ ]
   first_holds (g ∷ gs) r (First.here e) = rw e
   first_holds (g ∷ gs) r (First.later e f) = rw e (first_holds gs r f)
 
@@ -168,13 +169,13 @@ pub set_law : SetLaw
 set_law s made p why i =
     post_split s made p why (λ (a : PostAnswer) (t : Assignments). keeps a ≡ true → ((v : ℤ) → member (domain_of t p.domain.0) v ≡ (member (domain_before s p) v && satisfies p.kind p.value v)) × ((y : ℕ) → y ≢ p.domain.0 → domain_of t y ≡ domain_of s y))
     (λ h k. clash k refl)
-    (λ h e k. (λ v. ap (λ (d : Domain). member d v) (sym (Domains.after-idle p.kind p.value (domain_before s p) e)) ∙ Domains.set-law p.kind p.value (domain_before s p) v, λ y n. refl))
+    (λ h e k. (λ v. ap (λ (d : Domain). member d v) (sym (Domains.after_idle p.kind p.value (domain_before s p) e)) ∙ Domains.set_law p.kind p.value (domain_before s p) v, λ y n. refl))
     (λ h e l k. clash k refl)
     (λ h e l o k. clash k refl)
-    (λ h e l o k. (λ v. ap (λ (d : Domain). member d v) (posted_own s made p why i h e l o) ∙ Domains.set-law p.kind p.value (domain_before s p) v, posted_other s made p why i h e l o))
+    (λ h e l o k. (λ v. ap (λ (d : Domain). member d v) (posted_own s made p why i h e l o) ∙ Domains.set_law p.kind p.value (domain_before s p) v, posted_other s made p why i h e l o))
 
 pub bounds_law : BoundsLaw
-bounds_law s made x h = let t = tight_of s (straight made) x h in (t, Domains.empty-law (domain_of s x) t)
+bounds_law s made x h = let t = tight_of s (straight made) x h in (t, Domains.empty_law (domain_of s x) t)
 
 -- ---- what a post answers where the set before was not empty
 
@@ -189,21 +190,21 @@ module _ (s : Assignments) (made : Made s) (p : Predicate) (there : p.domain.0 <
   -- the post does something exactly where something is lost
   shrinks : (does s p ≡ true) ↔ Lost s p
   unfolding d
-  shrinks = Domains.shrink-law p.kind p.value d tight some
+  shrinks = Domains.shrink_law p.kind p.value d tight some
 
   -- something is left exactly where the domain after is not emptied
   left_over : SomeLeft s p → emptied (after p.kind p.value d) ≡ false
   unfolding d
   left_over w = by_cases (emptied (after p.kind p.value d))
-      (λ e. clash (Domains.set-law p.kind p.value d w.0 ∙ rw (w.1, w.2)) ((Domains.empty-law (after p.kind p.value d) (Domains.tight-law p.kind p.value d tight)).0 e w.0))
+      (λ e. clash (Domains.set_law p.kind p.value d w.0 ∙ rw (w.1, w.2)) ((Domains.empty_law (after p.kind p.value d) (Domains.tight_law p.kind p.value d tight)).0 e w.0))
       (λ e. e)
 
   least_left : emptied (after p.kind p.value d) ≡ false → SomeLeft s p
   unfolding d
   least_left e =
       let e' : Domain = after p.kind p.value d in
-      let in' = (Domains.tight-law p.kind p.value d tight).least (omega integers) in
-      let w = both (member d e'.lower) (satisfies p.kind p.value e'.lower) (sym (Domains.set-law p.kind p.value d e'.lower) ∙ in') in
+      let in' = (Domains.tight_law p.kind p.value d tight).least (omega integers) in
+      let w = both (member d e'.lower) (satisfies p.kind p.value e'.lower) (sym (Domains.set_law p.kind p.value d e'.lower) ∙ in') in
       (e'.lower, w.0, w.1)
 
   -- an overflow leaves nothing
@@ -249,7 +250,7 @@ module _ (s : Assignments) (made : Made s) (p : Predicate) (there : p.domain.0 <
       (λ h e. rw some (λ q. never (cc), λ q. clash (shrinks.1 q.0) e))
       (λ h e l. (λ q. never (cc), λ q. absurd (omega arith)))
       (λ h e l o. (λ q. never (cc), λ q. absurd (over_none o q.1)))
-      (λ h e l o. (λ q. (shrinks.0 e, least_left (rw (Domains.after-moved p.kind p.value d e) (kept (emptied (moved p.kind p.value d)) q)), l), λ q. rw (rw (Domains.after-moved p.kind p.value d e) at (left_over q.1))))
+      (λ h e l o. (λ q. (shrinks.0 e, least_left (rw (Domains.after_moved p.kind p.value d e) (kept (emptied (moved p.kind p.value d)) q)), l), λ q. rw (rw (Domains.after_moved p.kind p.value d e) at (left_over q.1))))
     where
       kept : (b : Bool) → pick b (Post.Refused Empty) Post.Changed ≡ Post.Changed → b ≡ false
       kept true q = never (cc)
@@ -274,8 +275,8 @@ module _ (s : Assignments) (made : Made s) (p : Predicate) (there : p.domain.0 <
       (λ h e l. (λ q. never (cc), λ q. absurd (omega arith)))
       (λ h e l o. (λ q. never (cc), λ q. clash o q.2))
       (λ h e l o. (
-        λ q. (λ w. clash (gone (emptied (moved p.kind p.value d)) q) (rw (Domains.after-moved p.kind p.value d e) at (left_over w)), l, o),
-        λ q. by_cases (emptied (moved p.kind p.value d)) (λ f. rw f) (λ f. absurd (q.0 (least_left (rw (Domains.after-moved p.kind p.value d e) f)))),
+        λ q. (λ w. clash (gone (emptied (moved p.kind p.value d)) q) (rw (Domains.after_moved p.kind p.value d e) at (left_over w)), l, o),
+        λ q. by_cases (emptied (moved p.kind p.value d)) (λ f. rw f) (λ f. absurd (q.0 (least_left (rw (Domains.after_moved p.kind p.value d e) f)))),
       ))
     where
       gone : (b : Bool) → pick b (Post.Refused Empty) Post.Changed ≡ Post.Refused Empty → b ≡ true
@@ -370,7 +371,7 @@ member_replayed es x start v (suc n) = go (on x (get_or es n no_entry)) (member_
     e = get_or es n no_entry
 
     go : (b : Bool) → member (replayed es x start n) v ≡ remains es x start v n → member (pick b (after e.predicate.kind e.predicate.value (replayed es x start n)) (replayed es x start n)) v ≡ (remains es x start v n && pick b (satisfies e.predicate.kind e.predicate.value v) true)
-    go true h = Domains.set-law e.predicate.kind e.predicate.value (replayed es x start n) v ∙ ap (λ (b : Bool). b && satisfies e.predicate.kind e.predicate.value v) h
+    go true h = Domains.set_law e.predicate.kind e.predicate.value (replayed es x start n) v ∙ ap (λ (b : Bool). b && satisfies e.predicate.kind e.predicate.value v) h
     go false h = h ∙ sym (whole (remains es x start v n))
       where
         whole : (b : Bool) → (b && true) ≡ b

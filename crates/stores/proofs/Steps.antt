@@ -1,6 +1,6 @@
 -- Every store that public calls made is straight: a call that does something is steps, a refused one is none, and a synchronise leads
 -- back to a store on the way. So what holds of straight stores holds of all, and nothing need be shown of a synchronise again.
-use Prim.Native.Nat.{ℕ, zero, suc, ◌+◌, ◌-◌, ◌≤◌, ◌<◌}
+use Prim.Native.Nat.{ℕ, zero, suc, ◌+◌, ◌≤◌, ◌<◌}
 use mathlib.Core.Bool.{Bool, true, false}
 use mathlib.Core.Path.{◌≡◌, refl, sym, ap, ◌∙◌, subst}
 use mathlib.Core.List.{List, []}

@@ -1,10 +1,9 @@
 -- Stores made step by step without going back, and how such a store is kept in order: what is past a length is blank, no link leads past
 -- its pool, no delimiter past the trail. Each step keeps that order because it writes one place past the end and counts it.
-use Prim.Native.Nat.{ℕ, zero, suc, ◌-◌, ◌≤◌, ◌<◌}
+use Prim.Native.Nat.{ℕ, zero, suc, ◌≤◌, ◌<◌}
 use mathlib.Core.Bool.{Bool, true, false}
 use mathlib.Core.Path.{◌≡◌, refl, ◌∙◌}
 use mathlib.Core.List.{List, [], ◌∷◌}
-use lib.IntN.{ℤ}
 use lib.ListN.{length, get_or, set, length-set, replicate, length-replicate}
 use lib.Seq.{get_or-set_same, get_or-set_other}
 use lib.Dec.{ltb}

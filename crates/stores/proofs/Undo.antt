@@ -5,7 +5,7 @@ use mathlib.Core.Bool.{Bool, true, false}
 use mathlib.Core.Path.{◌≡◌, refl, sym, ap, ◌∙◌}
 use mathlib.Core.Logic.{◌≢◌}
 use mathlib.Core.List.{List}
-use lib.ListN.{length, get_or, set}
+use lib.ListN.{get_or, set}
 use lib.Seq.{set-set, set-get_or, get_or-set_same, get_or-set_other}
 use native.Mathlib.Omega.{arith}
 use Rattle.predicates.specs.declared.Predicate.{Predicate}

@@ -1,15 +1,13 @@
 -- What each call answers and leaves behind (RULES.md, "Refusal numbers", "Creating", "Posts", "Synchronise"): the refusals in their
 -- order, and then what the call does. Assumes nothing.
-use Rattle.std.specs.Prelude.{ℕ, zero, suc, ◌+◌, ◌-◌, Bool, true, false, ◌&&◌, List, [], ◌∷◌, ◌++◌, map, ℤ, pos, length, get_or, drop, ltb, leb, eqb}
-use Rattle.std.proofs.Math.IntN.{suc_ℤ}
+use Rattle.std.specs.Prelude.{ℕ, zero, suc, ◌+◌, ◌-◌, Bool, true, false, ◌&&◌, List, [], ◌∷◌, ℤ, pos, length, get_or, ltb, leb, eqb}
 use Rattle.std.specs.Int.Signed.{lt_z}
 use Rattle.predicates.specs.declared.Predicate.{Predicate}
-use Rattle.predicates.specs.declared.PredicateType.TheVariants.{LowerBound, NotEqual, UpperBound}
 use Rattle.predicates.specs.declared.Reason.{Reason}
 use Rattle.predicates.specs.declared.Reason.TheVariants.{None}
 use Rattle.domains.specs.declared.Bounds.{Bounds}
 use Rattle.domains.specs.Choice.{pick}
-use Rattle.domains.specs.Domain.{Domain, has, emptied, width, acts, overflows, lower_after, upper_after, after}
+use Rattle.domains.specs.Domain.{Domain, emptied, acts, overflows, lower_after, upper_after, after}
 use Rattle.stories.specs.declared.Refusal.TheVariants.{NoVariable, NotRoot, BadDomain, TooManyVariables, TrailFull, StepOverflow, Empty, TooManyCheckpoints, NotLower, NoRoom, NoSuchEntry}
 use Rattle.stories.specs.Refusals.{number_of, Ground, decided}
 use Rattle.stories.specs.declared.GrowAnswer.{GrowAnswer}

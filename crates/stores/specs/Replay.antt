@@ -1,10 +1,8 @@
 -- What the trail means: the entries on a variable, applied in order to its starting interval. Read are the trail's predicates and that
 -- interval, and nothing else: no pool, no bound, no hole. Assumes nothing.
-use Rattle.std.specs.Prelude.{ℕ, zero, suc, ◌+◌, Bool, true, ◌&&◌, List, [], ℤ, get_or, eqb}
-use Rattle.std.specs.Int.Signed.{le_z}
+use Rattle.std.specs.Prelude.{ℕ, zero, suc, ◌+◌, List, get_or}
 use Rattle.domains.specs.declared.Bounds.{Bounds}
-use Rattle.domains.specs.Choice.{pick}
-use Rattle.domains.specs.Domain.{Domain, satisfies, after, pruned_by}
+use Rattle.domains.specs.Domain.{pruned_by}
 use Rattle.stories.specs.declared.Entry.{Entry}
 use Rattle.stories.specs.Story.{replayed, bounds_of}
 use Rattle.stories.specs.Story.{no_entry}

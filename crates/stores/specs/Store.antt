@@ -3,9 +3,7 @@
 use Rattle.std.specs.Prelude.{ℕ, zero, suc, ◌+◌, ◌-◌, Bool, not, List, ℤ, pos, get_or, set, replicate}
 use Rattle.integers.specs.Integers.{eq_z}
 use Rattle.predicates.specs.declared.Predicate.{Predicate}
-use Rattle.predicates.specs.declared.PredicateType.TheVariants.{LowerBound}
 use Rattle.predicates.specs.declared.Reason.{Reason}
-use Rattle.predicates.specs.declared.Reason.TheVariants.{None}
 use Rattle.domains.specs.declared.Bounds.{Bounds}
 use Rattle.domains.specs.Choice.{pick}
 use Rattle.domains.specs.Domain.{Domain, is_not_equal, pruned_by}
