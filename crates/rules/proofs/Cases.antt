@@ -76,7 +76,7 @@ module _ (v : ℤ) (d : Domain) where
   -- where v is the only value left, the bounds pass each other and meet no hole
   pub passes : Trims true true → Moves (record { lower = suc_ℤ v; upper = pred_ℤ v }) ≡ step_of NotEqual v d
   passes t =
-      let u = t.at-upper in
+      let u = t.at_upper in
       let up = raised_is d.holes d.upper (suc_ℤ v) _ (stays _ _ _ (λ p. absurd (omega (integers, suc= v)))) in
       let down =
       lowered_is d.holes (suc_ℤ v) (pred_ℤ v) (pred_ℤ v)
