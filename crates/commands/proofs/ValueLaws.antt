@@ -15,7 +15,7 @@ use Rattle.commands.specs.Values.{Copied}
 
 -- an i32 that is passed on is the same number, since 32 bits hold it
 pub kept : (z : ℤ) → mag z < 2147483648 → to_z w32 (of_z w32 z) ≡ z
-kept z fits = to_z-of_z (record { sfits = fits })
+kept z fits = to_z-of_z {w = w32} (record { sfits = fits })
 
 -- what is left of the texts at i is the text there and what is left at i + 1
 pub texts_at : (texts : List (List ℕ)) (i : ℕ) → i < length texts → drop i texts ≡ get_or texts i [] ∷ drop (i + 1) texts

@@ -1,0 +1,10 @@
+-- `read_list` finds every value readable exactly where those that are left at each place are.
+use Rattle.std.proofs.Common.{arith}
+use Rattle.lines.specs.Fields.{fields}
+use Rattle.commands.proofs.ValueLaws.{texts_at}
+use Rattle.commands.proofs.list.read_list.Goals as goal
+
+pub loop-i-preserved : goal.loop-i-preserved
+loop-i-preserved c =
+    let texts = fields c.args.line.now in
+    simp (texts_at texts c.loop-i.i (omega arith), ← c.field.ensures, ← c.read_integer.ensures, c.in-Number.is) at c.loop-i.invariant
