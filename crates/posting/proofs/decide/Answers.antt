@@ -57,10 +57,10 @@ returns-then-entries-ge-MAX_ENTRIES c =
     simp (le-leb _ _ c.if-entries-ge-MAX_ENTRIES.true) at (outcome (goal.at.returns-then-entries-ge-MAX_ENTRIES c).After-step (Outcome.Moves c.in-Moves.to) c.in-Moves.is)
 
 pub returns-in-Nothing : goal.returns-in-Nothing
-returns-in-Nothing c = ap Stays c.idle.ensures ∙ outcome (goal.at.returns-in-Nothing c).After-step Outcome.Nothing c.in-Nothing.is
+returns-in-Nothing c = let decided = outcome (goal.at.returns-in-Nothing c).After-step Outcome.Nothing c.in-Nothing.is in cc
 
 pub returns-in-Overflows : goal.returns-in-Overflows
-returns-in-Overflows c = ap Stays c.overflow.ensures ∙ outcome (goal.at.returns-in-Overflows c).After-step Outcome.Overflows c.in-Overflows.is
+returns-in-Overflows c = let decided = outcome (goal.at.returns-in-Overflows c).After-step Outcome.Overflows c.in-Overflows.is in cc
 
 pub returns-else-entries-ge-MAX_ENTRIES : goal.returns-else-entries-ge-MAX_ENTRIES
 returns-else-entries-ge-MAX_ENTRIES c =

@@ -53,7 +53,9 @@ module _ (c : Joined-is_not_equal_predicate) where
 
   -- the bounds before and after are i32
   from_i32 : AreI32 bounds
-  from_i32 = let told = c.type_inv.from in record { lower = record { sfits = told.0.1 }; upper = record { sfits = told.1.0.1 } }
+  from_i32 =
+      let sound = reads_sound store c.requires predicate (variable_of store predicate.domain.0) (λ there. refl) c.if-domains-x.false in
+      record { lower = sound.fits.lower; upper = sound.fits.upper }
 
   to_i32 : AreI32 aimed
   to_i32 = let told = c.type_inv.to in record { lower = record { sfits = told.0.1 }; upper = record { sfits = told.1.0.1 } }
