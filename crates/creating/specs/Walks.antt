@@ -65,8 +65,8 @@ module _ (s : Assignments) (x : ℕ) (v : ℤ) where
   posted_removal low high =
       let b : Bounds = (variable_of s x).bounds in
       let same_low : eq_z b.lower b.lower ≡ true = omega integers in
-      let same-high : eq_z b.upper b.upper ≡ true = omega integers in
-      rw (low, high, same_low, same-high)
+      let same_high : eq_z b.upper b.upper ≡ true = omega integers in
+      rw (low, high, same_low, same_high)
       (λ i. record {
         trail = (removal s x v).trail;
         lower = s.lower;

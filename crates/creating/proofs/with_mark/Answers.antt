@@ -1,0 +1,8 @@
+-- `with_mark` stores the variable as it was but for the mark.
+use mathlib.Core.Path.{refl}
+use Rattle.stores.specs.Store.{marked}
+use Rattle.creating.proofs.with_mark.Goals as goal
+
+pub returns : goal.returns
+unfolding marked
+returns c = refl
