@@ -1,12 +1,7 @@
 -- What the questions about a variable answer (RULES.md, "Questions, now and at a position"): each asks the domain that the store has now or
 -- for a position, and is refused with 1 where there is no such variable. Assumes nothing.
-use Rattle.std.specs.Prelude.{ℕ, Bool, true, false, [], ◌∷◌, ℤ, leb}
-use Rattle.integers.specs.Integers.{eq_z}
-use Rattle.predicates.specs.declared.PredicateType.{PredicateType}
-use Rattle.domains.specs.Choice.{pick}
-use Rattle.domains.specs.Domain.{Domain, member, width}
-use Rattle.domains.specs.Truth.{Truth, truth_of}
-use Rattle.domains.specs.Truth.Truth.{holds, fails, open'}
+use Rattle.std.specs.Prelude.{ℕ, [], ◌∷◌, leb}
+use Rattle.domains.specs.Domain.{Domain}
 use Rattle.stores.specs.declared.Assignments.{Assignments}
 use Rattle.stories.specs.declared.Refusal.{Refusal}
 use Rattle.stories.specs.declared.Refusal.TheVariants.{NoVariable}
@@ -15,14 +10,6 @@ use Rattle.stores.specs.Store.{variable_of, domain_of}
 use Rattle.stores.specs.Positions.{domain_at}
 use Rattle.stories.specs.declared.BoundAnswer.{BoundAnswer}
 use Rattle.stories.specs.declared.BoundAnswer.TheVariants as Bound
-use Rattle.stories.specs.declared.YesNo.{YesNo}
-use Rattle.stories.specs.declared.YesNo.TheVariants as Yes
-use Rattle.stories.specs.declared.ValueAnswer.{ValueAnswer}
-use Rattle.stories.specs.declared.ValueAnswer.TheVariants as Value
-use Rattle.stories.specs.declared.TruthAnswer.{TruthAnswer}
-use Rattle.stories.specs.declared.TruthAnswer.TheVariants as Told
-use Rattle.stories.specs.declared.LeftAnswer.{LeftAnswer}
-use Rattle.stories.specs.declared.LeftAnswer.TheVariants as Left
 
 -- ---- asking the store
 

@@ -1,0 +1,24 @@
+-- `values_left` counts from lower to upper: none where upper lies below, else one more than the distance.
+use borrow.Author.Rules.{rules}
+use Rattle.integers.proofs.Order.{integers}
+use Rattle.pools.proofs.RunLaws.{apart}
+use Rattle.stories.specs.Questions.{left_of}
+use Rattle.questions.proofs.Reading.{read}
+use Rattle.questions.proofs.parts.values_left.Goals as goal
+
+pub returns-then-upper-lower : goal.returns-then-upper-lower
+unfolding left_of
+returns-then-upper-lower c = λ holes.
+    let bounds = c.args.bounds in
+    let test = simp (read bounds.lower (search rules), read bounds.upper (search rules)) at c.if-upper-lower.true in
+    omega integers
+
+pub returns : goal.returns
+unfolding left_of
+returns c = λ holes.
+    let bounds = c.args.bounds in
+    let lower = read bounds.lower (search rules) in
+    let upper = read bounds.upper (search rules) in
+    let test = simp (lower, upper) at c.if-upper-lower.false in
+    let far = simp (lower, upper) at c.abs_diff.ensures in
+    omega (integers, apart bounds.lower bounds.upper (omega integers))
