@@ -1,0 +1,214 @@
+-- `answer_lines` answers line after line: at every turn what is still to come, after what was done, is the whole run.
+use Prim.Native.Nat.{ℕ, ◌-◌, ◌<◌, ◌≤◌, min}
+use mathlib.Core.Path.{◌≡◌, refl, sym, ap, subst, ◌∙◌}
+use native.Mathlib.Omega.{arith}
+use lib.Dec.{leb}
+use lib.ListN.{length, get_or, take, drop}
+use mir.Syntax.{w32}
+use mir.Val.{SFits}
+use mir.Facts.{to_z-of_z}
+use Rattle.predicates.specs.declared.Predicate.{Predicate}
+use Rattle.predicates.specs.Counts.{counted}
+use Rattle.domains.specs.Choice.{pick}
+use Rattle.stories.specs.declared.Refusal.TheVariants.{NoVariable}
+use Rattle.stores.specs.Store.{no_variable, variable_of, domain_of}
+use Rattle.stores.specs.Positions.{domain_at}
+use Rattle.stores.specs.Calls.{grow_answer, grow_store, open_answer, list_answer, list_store, post_answer, post_store, synchronise_answer, synchronise_store, pairs_of}
+use Rattle.stories.specs.Calls.{written, variables_in, lowers_in}
+use Rattle.stores.specs.Made.{Made}
+use Rattle.stores.specs.Made.Made.{grow as made-grow, list as Made-List, post as made-post, open_next as made-open, synchronise as made-back}
+use Rattle.stores.proofs.Straight.{tidy}
+use Rattle.stores.proofs.History.{straight}
+use Rattle.posting.proofs.Deciding.{reads_sound, stays_tell}
+use Rattle.stories.specs.declared.TruthAnswer.TheVariants.{Refused}
+use Rattle.stories.specs.Questions.{truth}
+use Rattle.commands.specs.Values.{values_of}
+use Rattle.commands.specs.declared.command.Command.TheVariants as command
+use Rattle.commands.proofs.RoomLaws.{list_whole}
+use Rattle.replies.specs.Replies.{refused_by, grow_reply, post_reply, open_reply, synchronise_reply}
+use Rattle.replies.specs.Text.{reply_text}
+use Rattle.lines.proofs.WritingLaws.{put_length}
+use Rattle.driver.specs.Lines.{command_store, command_reply, command_pairs, command_text, claim, shown}
+use Rattle.driver.specs.Parts.{about, truth_in, truth_at, shown_in}
+use Rattle.driver.proofs.ListLaws.{values_fit}
+use Rattle.driver.proofs.PlaceLaws.{placed}
+use Rattle.driver.proofs.ReplyLaws.{grow_plain, post_plain, open_plain, truth_plain, pick_plain, truth_of_lem, back_shows, Did, did, did_plain}
+use Rattle.driver.proofs.RunLaws.{going_full, going_out, going_more}
+use borrow.Author.Rules.{rules}
+use Rattle.predicates.specs.declared.DomainId.{DomainId}
+use Rattle.stores.specs.declared.Assignments.{Assignments}
+use Rattle.driver.proofs.answering.answer_lines.Goals as goal
+use Rattle.driver.proofs.answering.answer_lines.Goals.{in-Var, in-List, in-Post+in-Stays, in-Post+in-Moves, in-Open, in-Back, in-Ask, in-At, in-Show, in-Count, in-Bad}
+
+-- the record that a post reads is that of its variable, if there is one
+own : (s : Assignments) → Made s → (d : DomainId) (place : ℕ) → (d.0 < 256 → place ≡ d.0) → d.0 < s.domains → get_or s.variables place no_variable ≡ variable_of s d.0
+own s made d place placed there = ap (λ (n : ℕ). get_or s.variables n no_variable) (placed (omega (arith, there, (tidy (straight made)).domains)))
+
+pub returns-then-end-input : goal.returns-then-end-input
+returns-then-end-input c = going_out c.loop-out.invariant.0 c.line_end-end.result c.line_end-end.ensures c.if-end-input.true
+
+pub decide-requires : goal.decide-requires
+decide-requires c =
+    let s = c.loop-out.store in
+    let made = c.loop-out.invariant.0.made in
+    reads_sound s made (record { domain = c.new-domain.result; kind = c.in-Post.kind; value = c.in-Post.value }) (get_or s.variables c.place_of.result no_variable) (own s made c.new-domain.result c.place_of.result c.place_of.ensures.1)
+
+-- where the arms meet: the line was answered, and the slices for pairs are as long as ever
+pub loop-out-preserved : goal.loop-out-preserved
+unfolding command_store command_reply command_pairs command_text domain_of domain_at
+loop-out-preserved c =
+    let s = c.loop-out.store in
+    let made = c.loop-out.invariant.0.made in
+    let line = take (c.line_end-end.result - c.loop-out.read) (drop c.loop-out.read c.args.input.now) in
+    let said = sym c.read_command.ensures in
+    let variables = c.loop-out.invariant.1 in
+    let lowers = c.loop-out.invariant.2 in
+    let few = (tidy (straight made)).domains in
+    let met = c.match-read_command in
+    let did_here : Did s line met.store met.reply met.variables met.lowers × (length met.variables ≡ 1024) × (length met.lowers ≡ 1024) =
+    elim met.branch [
+      | in-Var w ↦
+          let bounds = w.in-Var in
+          let lower : SFits w32 bounds.lower = search rules in
+          let upper : SFits w32 bounds.upper = search rules in (
+            did_plain (command.Var bounds.lower bounds.upper) (said ∙ bounds.is)
+                (w.store-is ∙ w.grow-grew.ensures.1 ∙ (λ i. grow_store s (record { lower = to_z-of_z lower i; upper = to_z-of_z upper i })))
+                (made-grow made _ (record { lower = lower; upper = upper }))
+                (w.reply-is ∙ w.of_grow-reply.ensures ∙ ap grow_reply (w.grow-grew.ensures.0 ∙ (λ i. grow_answer s (record { lower = to_z-of_z lower i; upper = to_z-of_z upper i }))))
+                (grow_plain (grow_answer s (record { lower = bounds.lower; upper = bounds.upper })))
+                (λ number. refl),
+            ap length w.variables-is ∙ variables,
+            ap length w.lowers-is ∙ lowers,
+          )
+      | in-List w ↦
+          let told = said ∙ w.in-List.is in
+          let whole = list_whole line told (omega arith) w.list_values-count.ensures in
+          let grew = w.create_new_integer_variable_sparse-grew in (
+            did_plain command.List told
+                (w.store-is ∙ grew.ensures.1 ∙ ap (list_store s) whole)
+                (Made-List made _ (values_fit line))
+                (w.reply-is ∙ w.of_grow-reply-in-List.ensures ∙ ap grow_reply (grew.ensures.0 ∙ ap (list_answer s) whole))
+                (grow_plain (list_answer s (values_of line)))
+                (λ number. refl),
+            ap length w.variables-is ∙ variables,
+            ap length w.lowers-is ∙ lowers,
+          )
+      | in-Post+in-Stays w ↦
+          let post = w.in-Post in
+          let value : SFits w32 post.value = search rules in
+          let predicate : (_ ≡ claim post.id post.kind post.value) = λ i. record { domain = record { 0 = w.new-domain.ensures i }; kind = post.kind; value = to_z-of_z value i } in
+          let stays = stays_tell s made _ _ (own s made w.new-domain.result w.place_of.result w.place_of.ensures.1) post.reason w.in-Stays.answer (sym w.decide.ensures ∙ w.in-Stays.is) in (
+            did_plain (command.Post post.id post.kind post.value post.reason) (said ∙ post.is)
+                (w.store-is ∙ stays.1 ∙ ap (λ (p : Predicate). post_store s p post.reason) predicate)
+                (made-post made _ _ value)
+                (w.reply-is ∙ w.of_post.ensures ∙ ap post_reply (stays.0 ∙ ap (post_answer s) predicate))
+                (post_plain (post_answer s (claim post.id post.kind post.value)))
+                (λ number. refl),
+            ap length w.variables-is ∙ variables,
+            ap length w.lowers-is ∙ lowers,
+          )
+      | in-Post+in-Moves w ↦
+          let post = w.in-Post in
+          let value : SFits w32 post.value = search rules in
+          let predicate : (_ ≡ claim post.id post.kind post.value) = λ i. record { domain = record { 0 = w.new-domain.ensures i }; kind = post.kind; value = to_z-of_z value i } in
+          let posted = w.post_predicate-posted in (
+            did_plain (command.Post post.id post.kind post.value post.reason) (said ∙ post.is)
+                (w.store-is ∙ posted.ensures.1 ∙ ap (λ (p : Predicate). post_store s p post.reason) predicate)
+                (made-post made _ _ value)
+                (w.reply-is ∙ w.of_post-in-Moves.ensures ∙ ap post_reply (posted.ensures.0 ∙ ap (post_answer s) predicate))
+                (post_plain (post_answer s (claim post.id post.kind post.value)))
+                (λ number. refl),
+            ap length w.variables-is ∙ variables,
+            ap length w.lowers-is ∙ lowers,
+          )
+      | in-Open w ↦ (
+        did_plain command.Open (said ∙ w.in-Open.is)
+            (w.store-is ∙ w.new_checkpoint-opened.ensures.1)
+            (made-open made)
+            (w.reply-is ∙ w.of_open-reply.ensures ∙ ap open_reply w.new_checkpoint-opened.ensures.0)
+            (open_plain (open_answer s))
+            (λ number. refl),
+        ap length w.variables-is ∙ variables,
+        ap length w.lowers-is ∙ lowers,
+      )
+      | in-Back w ↦
+          let k = w.in-Back.checkpoint in
+          let gone = w.synchronise-gone in
+          let room : min (length c.loop-out.variables) (length c.loop-out.lowers) ≡ 1024 = omega (arith, variables, lowers) in (
+            did (command.Back k) (said ∙ w.in-Back.is)
+                (w.store-is ∙ gone.ensures.store ∙ (λ i. synchronise_store s (w.new.ensures i) (room i)))
+                (made-back made _ 1024)
+                (λ number.
+                (λ i. reply_text number ((w.reply-is ∙ w.of_synchronise-reply.ensures ∙ ap synchronise_reply (gone.ensures.answer ∙ (λ j. synchronise_answer s (w.new.ensures j) (room j)))) i)
+                ((w.variables-is ∙ gone.ensures.variables ∙ (λ j. written (variables_in (pairs_of s (w.new.ensures j) (room j))) c.loop-out.variables)) i)
+                ((w.lowers-is ∙ gone.ensures.lowers ∙ (λ j. written (lowers_in (pairs_of s (w.new.ensures j) (room j))) c.loop-out.lowers)) i))
+                ∙ back_shows s _ number _ _),
+            ap length w.variables-is ∙ search rules,
+            ap length w.lowers-is ∙ search rules,
+          )
+      | in-Ask w ↦
+          let asked = w.in-Ask in
+          let value : SFits w32 asked.value = search rules in (
+            did_plain (command.Ask asked.id asked.kind asked.value) (said ∙ asked.is)
+                w.store-is
+                made
+                (w.reply-is ∙ w.ask-reply.ensures
+                ∙ placed s.variables s.domains w.new-domain-in-Ask.result.0 w.place_of-in-Ask.result (truth_in s.holes asked.kind _) few w.place_of-in-Ask.ensures.1
+                ∙ (λ i. about s.domains (w.new-domain-in-Ask.ensures i) (truth_in s.holes asked.kind (to_z-of_z value i) (get_or s.variables (w.new-domain-in-Ask.ensures i) no_variable)))
+                ∙ truth_of_lem (leb s.domains (counted asked.id)) (Refused NoVariable) (truth asked.kind asked.value (domain_of s (counted asked.id))))
+                (truth_plain (pick (leb s.domains (counted asked.id)) (Refused NoVariable) (truth asked.kind asked.value (domain_of s (counted asked.id)))))
+                (λ number. refl),
+            ap length w.variables-is ∙ variables,
+            ap length w.lowers-is ∙ lowers,
+          )
+      | in-At w ↦
+          let asked = w.in-At in
+          let value : SFits w32 asked.value = search rules in (
+            did_plain (command.At asked.position asked.id asked.kind asked.value) (said ∙ asked.is)
+                w.store-is
+                made
+                (w.reply-is ∙ w.ask_at-reply.ensures
+                ∙ placed s.variables s.domains w.new-domain-in-At.result.0 w.place_of-in-At.result (truth_at s.lower s.upper s.holes w.new-at.result.0 asked.kind _) few w.place_of-in-At.ensures.1
+                ∙ (λ i. about s.domains (w.new-domain-in-At.ensures i) (truth_at s.lower s.upper s.holes (w.new-at.ensures i) asked.kind (to_z-of_z value i) (get_or s.variables (w.new-domain-in-At.ensures i) no_variable)))
+                ∙ truth_of_lem (leb s.domains (counted asked.id)) (Refused NoVariable) (truth asked.kind asked.value (domain_at s (counted asked.id) (counted asked.position))))
+                (truth_plain (pick (leb s.domains (counted asked.id)) (Refused NoVariable) (truth asked.kind asked.value (domain_at s (counted asked.id) (counted asked.position)))))
+                (λ number. refl),
+            ap length w.variables-is ∙ variables,
+            ap length w.lowers-is ∙ lowers,
+          )
+      | in-Show w ↦
+          let id = w.in-Show.id in (
+            did_plain (command.Show id) (said ∙ w.in-Show.is)
+                w.store-is
+                made
+                (w.reply-is ∙ w.show-reply.ensures s.holes
+                ∙ placed s.variables s.domains w.new-domain-in-Show.result.0 w.place_of-in-Show.result (shown_in s.holes) few w.place_of-in-Show.ensures.1
+                ∙ (λ i. about s.domains (w.new-domain-in-Show.ensures i) (shown_in s.holes (get_or s.variables (w.new-domain-in-Show.ensures i) no_variable))))
+                (pick_plain (leb s.domains (counted id)) (refused_by NoVariable) (shown (domain_of s (counted id))) (λ number variables lowers. refl) (λ number variables lowers. refl))
+                (λ number. refl),
+            ap length w.variables-is ∙ variables,
+            ap length w.lowers-is ∙ lowers,
+          )
+      | in-Count w ↦ (
+        did_plain command.Count (said ∙ w.in-Count.is) w.store-is made w.reply-is (λ number variables lowers. refl) (λ number. refl),
+        ap length w.variables-is ∙ variables,
+        ap length w.lowers-is ∙ lowers,
+      )
+      | in-Bad w ↦ (
+        did_plain command.Bad (said ∙ w.in-Bad.is) w.store-is made w.reply-is (λ number variables lowers. refl) (λ number. refl),
+        ap length w.variables-is ∙ variables,
+        ap length w.lowers-is ∙ lowers,
+      )
+    ] in
+    let did = did_here.0 in
+    let wrote = c.put_reply-written.ensures in
+    let text = did.text c.loop-out.number in
+    let ahead : c.line_end-end.result < length c.args.input.now = omega (arith, c.line_end-end.ensures.inside c.loop-out.invariant.0.inside, c.if-end-input.false) in
+    let enough : 34000 ≤ length c.args.out.now - c.loop-out.written = subst (λ (n : ℕ). 34000 ≤ n - c.loop-out.written) (put_length c.loop-out.invariant.0.put) c.loop-out-test.true in (
+      going_more c.loop-out.invariant.0 c.line_end-end.ensures ahead enough met.store did.stored (subst Made (sym did.stored) did.made) (rw text at wrote.0) (omega (arith, wrote.1, ap length text, did_here.1)),
+      did_here.1,
+      did_here.2,
+    )
+
+pub returns : goal.returns
+returns c = going_full c.loop-out.invariant.0 (omega (arith, c.loop-out-test.false, put_length c.loop-out.invariant.0.put))
