@@ -4,7 +4,7 @@
 ghost use Rattle.std.specs.Prelude.{ℕ, ◌+◌, ◌-◌, ◌<◌, ◌≤◌, ◌≡◌, length, get_or};
 
 use driver::{answer_lines, line_end};
-use libc::{STDIN_FILENO, STDOUT_FILENO};
+use std::io::{Read, Write};
 use stores::Assignments;
 
 // How many bytes a line may have.
@@ -28,21 +28,25 @@ fn move_to_front(buffer: &mut [u8], start: usize, end: usize) -> usize
     count
 }
 
-// Moves what is left to the front and reads more behind it. Answers where the bytes then end.
-fn refill(buffer: &mut [u8], start: usize, end: usize) -> usize
+// Moves what is left to the front and reads more behind it. Answers where the bytes then end. A read that fails reads nothing.
+fn refill<R: Read>(reader: &mut R, buffer: &mut [u8], start: usize, end: usize) -> usize
     requires { (start ≤ end) × (end ≤ length buffer.old) }
     ensures { (end - start ≤ result) × (result ≤ length buffer.new) }
 {
     let kept = move_to_front(buffer, start, end);
-    let got = libc::read(STDIN_FILENO, &mut buffer[kept..]);
-    kept + io::count(got, &buffer[kept..])
+    match reader.read(&mut buffer[kept..]) {
+        Ok(count) => kept + count,
+        Err(_) => kept,
+    }
 }
 
-fn main() {
+fn main(rt: HostRuntime) {
+    let mut reader = rt.stdin();
+    let mut writer = rt.stdout();
     let mut store = Assignments::default();
     let mut number: u64 = 1;
-    let mut input = io::large_buffer();
-    let mut output = io::large_buffer();
+    let mut input = [0u8; 65536];
+    let mut output = [0u8; 65536];
     // The bytes that are not yet answered are those from `start` to `end`.
     let mut start: usize = 0;
     let mut end: usize = 0;
@@ -55,7 +59,7 @@ fn main() {
         store = done.store;
         number = done.number;
         let written = done.written;
-        if !io::write_all(STDOUT_FILENO, &output[..written]) {
+        if writer.write_all(&output[..written]).is_err() {
             return;
         }
         let read = done.read;
@@ -72,7 +76,7 @@ fn main() {
             continue;
         }
         let kept = end - start;
-        let filled = refill(&mut input, start, end);
+        let filled = refill(&mut reader, &mut input, start, end);
         start = 0;
         end = filled;
         if filled == kept {
