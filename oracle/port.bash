@@ -2,7 +2,8 @@
 
 port_root=$(cd "$(dirname "${BASH_SOURCE[0]}")/.." && pwd)
 
-# Proves and builds a program of the port, if it is not as the sources are. What is said goes to standard error.
+# Proves and builds a program of the port, if it is not as the sources are. What is said goes to standard error. The
+# toolchain builds a program by running it, so it runs once here, on no lines, to which it answers nothing.
 #   build_port NAME
 build_port() {
   if ! command -v rt >/dev/null; then
@@ -10,7 +11,7 @@ build_port() {
     return 2
   fi
   # Standard input may be the session that is to be answered.
-  (cd "$port_root" && rt check "$1" </dev/null >&2) || return 2
+  (cd "$port_root/crates/$1" && rt run </dev/null >&2) || return 2
 }
 
 # Whether the machine runs the port's programs itself: they are compiled for x86-64.
@@ -35,7 +36,7 @@ rattle_home() {
 # On a machine that is no x86-64 these name the emulator of the Rattle toolchain, with the C library that is there for
 # it.
 find_port() {
-  local program=$port_root/target/bin/$1 home tools
+  local program=$port_root/crates/$1/out/$1 home tools
   port_words=("$program")
   port_is_native && return
   if ! home=$(rattle_home); then
