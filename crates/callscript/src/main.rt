@@ -1,5 +1,5 @@
 // Answers the lines of standard input, each a public call of the store (docs/CALLS.md), as the Rust's oracle does.
-// Relies on all crates of the store, on lines for the text, and on io and libc.
+// Relies on all crates of the store, and on lines for the text.
 #![tactic(auto)]
 
 mod answers;
@@ -13,17 +13,17 @@ mod states;
 ghost use Rattle.stores.specs.Made.{Made};
 
 use commands::{Command, Look};
-use libc::STDOUT_FILENO;
 use predicates::{Checkpoint, TrailPosition};
 use reading::{Reader, shorter};
+use std::io::{Read, Write};
 use stores::Assignments;
 
 // Past this many bytes the output is written. The buffer has room beyond for the longest answer, a state of 200,000 bytes.
 const ENOUGH: usize = 32768;
 
 // Writes what the buffer holds.
-fn write_out(out: &[u8], length: usize) -> bool {
-    io::write_all(STDOUT_FILENO, reading::used(out, length))
+fn write_out<W: Write>(output: &mut W, out: &[u8], length: usize) -> bool {
+    output.write_all(reading::used(out, length)).is_ok()
 }
 
 // The command of the line that the reader took.
@@ -63,7 +63,9 @@ fn kept_values(values: &[i32; 100]) -> [i32; 100] {
 }
 
 // Answers line after line. The store stays here, and the calls are made here, so that it is copied no more often than they do.
-fn answer_lines(
+fn answer_lines<R: Read, W: Write>(
+    input: &mut R,
+    output: &mut W,
     piece: &mut [u8; 65536],
     line: &mut [u8; 200],
     out: &mut [u8; 262144],
@@ -76,13 +78,13 @@ fn answer_lines(
     while 0 < turns {
         turns -= 1;
         let number = u64::MAX - turns;
-        reader = reading::next_line(piece, line, reader);
+        reader = reading::next_line(input, piece, line, reader);
         if !reader.has_line() {
-            write_out(out, at);
+            write_out(output, out, at);
             return;
         }
         if ENOUGH < at {
-            if !write_out(out, at) {
+            if !write_out(output, out, at) {
                 return;
             }
             at = 0;
@@ -155,10 +157,19 @@ fn answer_lines(
     }
 }
 
-fn main() {
+fn main(rt: HostRuntime) {
+    let mut input = rt.stdin();
+    let mut output = rt.stdout();
     let mut piece = [0u8; 65536];
     let mut line = [0u8; 200];
     let mut out = [0u8; 262144];
     let mut values = [0i32; 100];
-    answer_lines(&mut piece, &mut line, &mut out, &mut values);
+    answer_lines(
+        &mut input,
+        &mut output,
+        &mut piece,
+        &mut line,
+        &mut out,
+        &mut values,
+    );
 }

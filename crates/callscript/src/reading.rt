@@ -1,7 +1,7 @@
 // Lines from standard input, which is read in pieces. A line of any length takes no more memory than a short one.
 ghost use Rattle.std.specs.Prelude.{◌≤◌};
 
-use libc::STDIN_FILENO;
+use std::io::Read;
 
 // Where reading stands. Of the piece the bytes from `at` to `end` are yet to be taken; of the line `length` bytes have been,
 // and `long` says that it had no room for more.
@@ -43,7 +43,12 @@ impl Reader {
 }
 
 // Takes the next line. Nothing says that it ends, so the turns are counted down from a number that no run uses up.
-pub fn next_line(piece: &mut [u8], line: &mut [u8], before: Reader) -> Reader {
+pub fn next_line<R: Read>(
+    input: &mut R,
+    piece: &mut [u8],
+    line: &mut [u8],
+    before: Reader,
+) -> Reader {
     let mut reader = before.between_lines();
     let mut turns = u64::MAX;
     while 0 < turns {
@@ -55,7 +60,7 @@ pub fn next_line(piece: &mut [u8], line: &mut [u8], before: Reader) -> Reader {
         if reader.over {
             return reader;
         }
-        reader = refill(piece, reader);
+        reader = refill(input, piece, reader);
     }
     reader
 }
@@ -87,9 +92,11 @@ fn take(piece: &[u8], line: &mut [u8], mut reader: Reader) -> Reader {
 }
 
 // Reads a further piece. A read that fails ends the input.
-fn refill(piece: &mut [u8], mut reader: Reader) -> Reader {
-    let got = libc::read(STDIN_FILENO, piece);
-    let count = io::count(got, piece);
+fn refill<R: Read>(input: &mut R, piece: &mut [u8], mut reader: Reader) -> Reader {
+    let count = match input.read(piece) {
+        Ok(got) => got,
+        Err(_) => 0,
+    };
     reader.at = 0;
     reader.end = count;
     reader.over = count == 0;
