@@ -11,6 +11,7 @@ use Rattle.domains.proofs.Counting.{moved, counts_one, counts_moved}
 use Rattle.domains.proofs.pruned.Goals as goal
 use Rattle.domains.proofs.pruned.Goals.{After-wide-above}
 
+-- the sum is that of the distances
 sum : (c : After-wide-above) → c.wide-below.result + c.wide-above.result ≡ moved c.args.kind c.args.from c.args.to
 sum c =
     let from = c.args.from in

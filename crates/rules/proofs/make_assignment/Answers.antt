@@ -14,6 +14,7 @@ use Rattle.rules.proofs.Cases.{idle, assigns}
 use Rattle.rules.proofs.make_assignment.Goals as goal
 use Rattle.rules.proofs.make_assignment.Goals.{After-step_up-raised}
 
+-- where the lower bound is raised
 module _ (c : After-step_up-raised) where
   abbrev domain : Domain
   domain = domain_in c.args.holes c.args.newest c.args.bounds

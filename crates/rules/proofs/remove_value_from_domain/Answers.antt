@@ -19,6 +19,7 @@ use Rattle.rules.proofs.Cases.{not_left, only_end, trims, passes}
 use Rattle.rules.proofs.remove_value_from_domain.Goals as goal
 use Rattle.rules.proofs.remove_value_from_domain.Goals.{Else-contains}
 
+-- from here on the value is left
 module _ (c : Else-contains) where
   abbrev value : ℤ
   value = c.args.value
@@ -75,6 +76,7 @@ returns-then-value-eqminus2147483648 c =
     only_end _ _ (value_left here) (at_lower here c.if-value-lower-2.true) (at_upper here c.if-value-upper.true)
     (rw (other here last c.if-value-eq2147483647.false, end) refl)
 
+-- it is the only one left
 pub returns-then-value-upper : goal.returns-then-value-upper
 returns-then-value-upper c =
     let here = (goal.at.returns-then-value-upper c).Else-contains in
@@ -83,6 +85,7 @@ returns-then-value-upper c =
     (rw (other here last c.if-value-eq2147483647.false, other here first c.if-value-eqminus2147483648.false) refl) in
     simp (to_z-of_z c.ranges.value, one_more, one_less, to_z-of_z (t.next refl), to_z-of_z (t.previous refl)) (passes _ _ t)
 
+-- it is the lower bound alone
 pub returns-then-value-lower-2 : goal.returns-then-value-lower-2
 returns-then-value-lower-2 c =
     let here = (goal.at.returns-then-value-lower-2 c).Else-contains in
@@ -91,6 +94,7 @@ returns-then-value-lower-2 c =
     let raised = answer c.step_up-raised.type_inv (simp (to_z-of_z c.ranges.value, one_more, to_z-of_z (t.next refl), upper) at c.step_up-raised.ensures) in
     simp (raised, upper) t.bounds
 
+-- it is the upper bound alone
 pub returns-then-value-upper-2 : goal.returns-then-value-upper-2
 returns-then-value-upper-2 c =
     let here = (goal.at.returns-then-value-upper-2 c).Else-contains in
@@ -99,6 +103,7 @@ returns-then-value-upper-2 c =
     let lowered = answer c.step_down-lowered.type_inv (simp (to_z-of_z c.ranges.value, one_less, to_z-of_z (t.previous refl), lower) at c.step_down-lowered.ensures) in
     simp (lower, lowered) t.bounds
 
+-- it is no bound
 pub returns : goal.returns
 returns c =
     let here = (goal.at.returns c).Else-contains in

@@ -11,6 +11,7 @@ use Rattle.pools.proofs.RunLaws.{steps_down}
 use Rattle.pools.proofs.Pool.step_down.Goals.{After-steps-steps}
 use Rattle.pools.proofs.Pool.step_down.Goals as goal
 
+-- after both calls
 module _ (c : After-steps-steps) where
   -- the steps are at most 1,024, so their bits as an i32 are the number itself
   number : to_z w32 c.steps-steps.result ≡ pos c.steps-steps.result
