@@ -1,4 +1,5 @@
 -- `pruned` sums the two distances; where they are 0, a not-equal counts one.
+use Rattle.std.proofs.Common.{rules}
 use Prim.Native.Nat.{◌+◌}
 use mathlib.Core.Path.{◌≡◌, ◌∙◌, sym}
 use mir.Syntax.{w32}
@@ -16,10 +17,10 @@ sum : (c : After-wide-above) → c.wide-below.result + c.wide-above.result ≡ m
 sum c =
     let from = c.args.from in
     let to = c.args.to in
-    let fl : SFits w32 from.lower = record { sfits = c.struct_told-1.given.0.1 } in
-    let fu : SFits w32 from.upper = record { sfits = c.struct_told-1.given.1.0.1 } in
-    let tl : SFits w32 to.lower = record { sfits = c.struct_told-2-1.given.0.1 } in
-    let tu : SFits w32 to.upper = record { sfits = c.struct_told-2-1.given.1.0.1 } in
+    let fl : SFits w32 from.lower = search rules in
+    let fu : SFits w32 from.upper = search rules in
+    let tl : SFits w32 to.lower = search rules in
+    let tu : SFits w32 to.upper = search rules in
     let below : c.wide-below.result ≡ distance from.lower to.lower = c.wide-below.ensures ∙ (simp (to_z-of_z fl, to_z-of_z tl) at c.abs_diff.ensures) in
     let above : c.wide-above.result ≡ distance from.upper to.upper = c.wide-above.ensures ∙ (simp (to_z-of_z fu, to_z-of_z tu) at c.abs_diff-2.ensures) in
     omega arith

@@ -1,4 +1,5 @@
 -- `decide` answers what `decision` does, since `step_of` makes two of its tests, and the other two are the same in both.
+use Rattle.std.proofs.Common.{rules}
 use Prim.Native.Nat.{ℕ, ◌<◌}
 use mathlib.Core.Bool.{Bool, true, false, not}
 use mathlib.Core.Path.{◌≡◌, refl, sym, ap, ◌∙◌}
@@ -43,7 +44,7 @@ by_step w domains holes entries p there = rw (lt-leb domains p.domain.0 there) (
 outcome : (c : After-step) (o : Step) → c.step.result ≡ o → decided_on c.args.variable.bounds (leb 1024 c.args.entries) o ≡ decision c.args.variable c.args.domains c.args.holes c.args.entries c.args.predicate
 outcome c o e =
     let a = c.args in
-    let value : SFits w32 a.predicate.value = record { sfits = c.struct_told-1.given.1.1.0.1 } in
+    let value : SFits w32 a.predicate.value = search rules in
     let step = simp (to_z-of_z value) at c.step.ensures in
     ap (decided_on a.variable.bounds (leb 1024 a.entries)) (sym e ∙ step)
     ∙ by_step a.variable a.domains a.holes a.entries a.predicate c.if-domains-predicate.false

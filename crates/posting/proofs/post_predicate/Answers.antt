@@ -1,4 +1,5 @@
 -- `post_predicate` does what `decide` says, and records what `recorded` says, field by field.
+use Rattle.std.proofs.Common.{rules}
 use native.Mathlib.Omega.{arith}
 use mathlib.Core.Bool.{true, false}
 use mathlib.Core.Path.{◌≡◌, refl, sym, ◌∙◌, ap}
@@ -112,7 +113,7 @@ module _ (c : Joined-is_not_equal_predicate) where
       elim c.if-is_not_equal_predicate.branch [
         | then-is_not_equal_predicate w ↦
             let flag : removes store predicate reason aimed ≡ true = sym c.is_not_equal_predicate.ensures ∙ w.if-is_not_equal_predicate.true in
-            let value : SFits w32 predicate.value = record { sfits = w.struct_told-then-is_not_equal_predicate-1.given.1.1.0.1 } in
+            let value : SFits w32 predicate.value = search rules in
             let push = simp (to_z-of_z value) at w.push-removed.ensures in
             record {
               stored = w.store-is ∙ rw flag (λ i. replaced (before.stored i) (before.stored i).lower (before.stored i).upper (push i));

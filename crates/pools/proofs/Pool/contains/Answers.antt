@@ -1,4 +1,5 @@
 -- `contains` finds the value: each turn passes one update of the chain, and only one whose value is another.
+use Rattle.std.proofs.Common.{rules}
 use Prim.Native.Nat.{◌-◌}
 use mathlib.Core.Path.{◌≡◌}
 use lib.ListN.{get_or}
@@ -20,7 +21,7 @@ returns-then-held-value c =
     let a = c.args in
     let step = one_step a.self.updates c.loop-link.below c.loop-link.link (omega arith) (omega arith) in
     let u = get_or a.self.updates (c.loop-link.link - 1) no_update in
-    let same = same_bits u.value a.value (record { sfits = c.struct_told-1.given.0.1 }) c.ranges.value c.if-held-value.true in
+    let same = same_bits u.value a.value (search rules) c.ranges.value c.if-held-value.true in
     rw (to_z-of_z c.ranges.value, step, same) at c.loop-link.invariant.1
 
 pub loop-link-preserved : goal.loop-link-preserved

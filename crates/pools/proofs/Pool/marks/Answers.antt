@@ -1,4 +1,5 @@
 -- `marks` marks the variable's values: each turn passes one update of the chain, and sets the mark of its value's place.
+use Rattle.std.proofs.Common.{rules}
 use Prim.Native.Nat.{◌-◌}
 use mathlib.Core.Path.{◌≡◌, ◌∙◌}
 use mathlib.Core.Bool.{true, false, or-false}
@@ -26,7 +27,7 @@ loop-link-preserved c =
     let from = to_z-of_z c.ranges.from in
     let u = get_or a.self.updates (c.loop-link.link - 1) no_update in
     let rest = values_of (chain a.self.updates (c.loop-link.link - 1) u.previous) in
-    let value = to_z-of_z {w = w32} {z = u.value} (record { sfits = c.struct_told-1.given.0.1 }) in
+    let value = to_z-of_z {w = w32} {z = u.value} (search rules) in
     let place = simp (from, value) at c.place-mark.ensures in (
       omega arith,
       length-set c.loop-link.marks r true ∙ c.loop-link.invariant.1,

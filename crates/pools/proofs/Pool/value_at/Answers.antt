@@ -1,4 +1,5 @@
 -- `value_at` stops at the newest update that is not past the position: each turn passes one that is.
+use Rattle.std.proofs.Common.{rules}
 use mathlib.Core.Path.{◌≡◌, ◌∙◌}
 use mir.Syntax.{w32}
 use mir.Facts.{to_z-of_z}
@@ -16,7 +17,7 @@ returns-then-below-link c =
 pub returns-then-when-last : goal.returns-then-when-last
 returns-then-when-last c =
     let step = one_step c.args.self.updates c.loop-link.below c.loop-link.link (omega arith) (omega arith) in
-    to_z-of_z {w = w32} (record { sfits = c.struct_told-1.given.0.1 })
+    to_z-of_z {w = w32} (search rules)
     ∙ (rw (to_z-of_z c.ranges.otherwise, step, le-leb _ _ c.if-when-last.true) at c.loop-link.invariant.1)
 
 pub loop-link-preserved : goal.loop-link-preserved
