@@ -1,7 +1,8 @@
 // The driver `trailscript`: reads lines from standard input and prints an answer for each to standard output, in constant memory.
 #![tactic(auto)]
 
-ghost use Rattle.std.specs.Prelude.{ℕ, ◌+◌, ◌-◌, ◌<◌, ◌≤◌, ◌≡◌, length, get_or};
+ghost use Rattle.std.specs.Prelude.{ℕ, ◌+◌, ◌-◌, ◌<◌, ◌≤◌, ◌≡◌, length, get_or, take, drop};
+ghost use Rattle.std.specs.Io.KnownBytes.{Consumes};
 
 use driver::{answer_lines, line_end};
 use std::io::{Read, Write};
@@ -28,10 +29,14 @@ fn move_to_front(buffer: &mut [u8], start: usize, end: usize) -> usize
     count
 }
 
-// Moves what is left to the front and reads more behind it. Answers where the bytes then end. A read that fails reads nothing.
+// Moves what is left to the front, and reads behind it what the reader has next. Answers where the bytes then end. A read that fails
+// reads nothing.
 fn refill<R: Read>(reader: &mut R, buffer: &mut [u8], start: usize, end: usize) -> usize
     requires { (start ≤ end) × (end ≤ length buffer.old) }
-    ensures { (end - start ≤ result) × (result ≤ length buffer.new) }
+    ensures no_fewer { end - start ≤ result }
+    ensures inside { result ≤ length buffer.new }
+    ensures kept { (k : ℕ) → k < end - start → get_or buffer.new k 0 ≡ get_or buffer.old (start + k) 0 }
+    ensures behind { Consumes (R.remaining reader.old) (R.remaining reader.new) (take (result - (end - start)) (drop (end - start) buffer.new)) }
 {
     let kept = move_to_front(buffer, start, end);
     match reader.read(&mut buffer[kept..]) {

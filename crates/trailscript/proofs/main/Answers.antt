@@ -46,7 +46,7 @@ pub loop-turns-preserved-then-past-filled : goal.loop-turns-preserved-then-past-
 loop-turns-preserved-then-past-filled c =
     let lines = (goal.at.loop-turns-preserved-then-past-filled c).After-answer_lines-done in
     let whole : length c.refill-filled.new.buffer ≡ 65536 = search rules in
-    let held : c.refill-filled.result ≤ 65536 = omega (arith, c.refill-filled.ensures.1, whole) in
+    let held : c.refill-filled.result ≤ 65536 = omega (arith, c.refill-filled.ensures.inside, whole) in
     (c.answer_lines-done.ensures.made, omega (arith, few lines), omega (arith, c.if-past-filled.true), held, whole, long lines)
 
 pub loop-turns-preserved-else-past-filled : goal.loop-turns-preserved-else-past-filled
@@ -59,5 +59,5 @@ pub loop-turns-preserved : goal.loop-turns-preserved
 loop-turns-preserved c =
     let lines = (goal.at.loop-turns-preserved c).After-answer_lines-done in
     let whole : length c.refill-filled.new.buffer ≡ 65536 = search rules in
-    let held : c.refill-filled.result ≤ 65536 = omega (arith, c.refill-filled.ensures.1, whole) in
+    let held : c.refill-filled.result ≤ 65536 = omega (arith, c.refill-filled.ensures.inside, whole) in
     (c.answer_lines-done.ensures.made, omega (arith, few lines), omega arith, held, whole, long lines)
