@@ -1,5 +1,5 @@
 // Text written into a buffer from a place on, as far as the buffer reaches. Each function answers the place after the last byte that it wrote.
-ghost use Rattle.std.specs.Prelude.{◌≡◌, [], ◌∷◌, nat_abs};
+ghost use Rattle.std.specs.Prelude.{◌≡◌, [], ◌∷◌, unsigned_abs};
 ghost use Rattle.lines.specs.Spelling.{spelled, spelled_integer};
 ghost use Rattle.lines.specs.Writing.{Put};
 
@@ -55,7 +55,7 @@ pub fn put_integer(out: &mut [u8], at: usize, value: i32) -> usize
 
 // The number without its sign.
 fn magnitude(value: i32) -> u64
-    ensures { result ≡ nat_abs value }
+    ensures { result ≡ unsigned_abs value }
 {
     let wide = value as i64;
     if wide < 0 {
