@@ -18,6 +18,7 @@ use borrow.Author.Rules.{rules}
 use Rattle.creating.proofs.create_new_integer_variable_sparse.Goals as goal
 use Rattle.creating.proofs.create_new_integer_variable_sparse.Goals.{After-grow-grew}
 
+-- what the dense variable comes to
 module _ (c : After-grow-grew) where
   abbrev store : Assignments
   store = c.args.store

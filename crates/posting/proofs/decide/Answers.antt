@@ -25,6 +25,7 @@ use Rattle.posting.specs.Decision.{domain_read, bounds_read, decision}
 use Rattle.posting.proofs.decide.Goals as goal
 use Rattle.posting.proofs.decide.Goals.{After-step}
 
+-- what is decided on each outcome of `step`, on a full trail or not
 abbrev decided_on : Bounds → Bool → Step → Decision
 decided_on b full Outcome.Nothing = Stays (idle_answer b)
 decided_on b full Outcome.Overflows = Stays (pick full (Refused TrailFull) (Refused StepOverflow))
@@ -41,6 +42,7 @@ by_step w domains holes entries p there = rw (lt-leb domains p.domain.0 there) (
     go true false true = refl
     go true false false = refl
 
+-- where `step` has answered, that is what is decided on its outcome
 outcome : (c : After-step) (o : Step) → c.step.result ≡ o → decided_on c.args.variable.bounds (leb 1024 c.args.entries) o ≡ decision c.args.variable c.args.domains c.args.holes c.args.entries c.args.predicate
 outcome c o e =
     let a = c.args in
