@@ -1,2 +1,2 @@
-// The checks of RULES.md, "Bench checks", of the store: one table and one proof, in specs/. There is no code here.
+// The checks of RULES.md, "Bench checks", of the store: one table in specs/ and one proof in proofs/. There is no code here.
 #![tactic(auto)]

@@ -1,5 +1,5 @@
 // What a post makes of a variable's bounds, and what it adds to the count. The meaning is in specs/: Domain.antt has the
-// rules, Laws.antt the set law. Relies on integers and predicates.
+// rules, Promises.antt what is promised of them. Relies on integers and predicates.
 #![tactic(auto)]
 
 ghost use Rattle.std.specs.Prelude.{◌≡◌};

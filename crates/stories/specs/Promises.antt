@@ -1,6 +1,6 @@
--- What is promised of every store, told of its story: statements alone, in the order of the demands. The proofs are in proofs/Kept.antt.
--- Believe the definitions that these cite (Refusals, Words, Story and Calls; Domain of domains) and nothing else. That a store and its
--- calls do as their story says is at each call, as `Called` of stores. Assumes nothing.
+-- What is promised of every store, told of its story: statements alone, in the order of the demands. Nothing
+-- proves them of stories yet; what is proved of stores is in Promises.antt of stores. Believe the definitions that these cite (Refusals,
+-- Words, Story and Calls; Domain of domains) and nothing else. Assumes nothing.
 use Rattle.std.specs.Prelude.{ℕ, suc, ◌≤◌, ◌<◌, true, false, ◌&&◌, ◌≡◌, ◌≢◌, ◌↔◌, [], ℤ, length, get_or}
 use Rattle.domains.specs.Domain.{satisfies, member, emptied, overflows}
 use Rattle.domains.specs.Promises.{Tight}

@@ -1,5 +1,5 @@
--- What is promised of the questions: statements alone, the first half of demand 3 first. The proofs are in proofs/QuestionsKept.antt.
--- Believe the definitions that these cite (Questions, Story and Refusals; Domain and Truth of domains) and nothing else. Assumes nothing.
+-- What is promised of the questions: statements alone, the first half of demand 3 first. Nothing proves them of stories
+-- yet; what is proved of the questions to a store is in Promises.antt of questions. Believe the definitions that these cite (Questions, Story and Refusals; Domain and Truth of domains) and nothing else. Assumes nothing.
 use Rattle.std.specs.Prelude.{ℕ, suc, ◌≤◌, ◌<◌, min, ◌≡◌, ◌↔◌, Bool, true, false, ℤ, length, ◌≤ℤ◌}
 use Rattle.std.specs.Int.Signed.{le_z}
 use Rattle.predicates.specs.declared.PredicateType.{PredicateType}
