@@ -1,5 +1,6 @@
 -- The cases of each call: what refuses it, what it does otherwise, and that it does nothing else. Each follows the call's definition test
 -- by test. The proofs of the code cite the cases one by one; a property of stores is carried over a call by `..-cases`.
+use Rattle.std.specs.Prelude.{Ok, Err}
 use Prim.Native.Nat.{ℕ, suc, ◌+◌, ◌≤◌, ◌<◌}
 use mathlib.Core.Bool.{Bool, true, false, ◌&&◌}
 use mathlib.Core.Path.{◌≡◌, refl, sym, subst}
@@ -18,10 +19,6 @@ use Rattle.domains.specs.Choice.{pick}
 use Rattle.domains.specs.Domain.{overflows, emptied, moved, after}
 use Rattle.domains.proofs.Laws.{after_idle, after_moved}
 use Rattle.stories.specs.declared.Refusal.TheVariants.{NoVariable, NotRoot, BadDomain, TooManyVariables, TrailFull, StepOverflow, Empty, TooManyCheckpoints, NotLower, NoRoom}
-use Rattle.stories.specs.declared.GrowAnswer.TheVariants as Grow
-use Rattle.stories.specs.declared.PostAnswer.TheVariants as Post
-use Rattle.stories.specs.declared.OpenAnswer.TheVariants as Open
-use Rattle.stories.specs.declared.SynchroniseAnswer.TheVariants as Synchronise
 use Rattle.stores.specs.declared.Assignments.{Assignments}
 use Rattle.stores.specs.Store.{opened}
 use Rattle.stores.specs.Calls.{grow_answer, grow_store, grown, list_answer, list_store, listed, domain_before, does, post_answer, keeps, post_store, posted, open_answer, open_store, entries_above, unfixed, synchronise_answer, synchronise_store, synchronised}
@@ -30,7 +27,7 @@ use Rattle.stories.specs.Calls.{missing, is_empty}
 -- ---- posts
 
 module _ (s : Assignments) (p : Predicate) (r : Reason) where
-  pub post_absent : s.domains ≤ p.domain.0 → (Post.Refused NoVariable ≡ post_answer s p) × (s ≡ post_store s p r)
+  pub post_absent : s.domains ≤ p.domain.0 → (Err NoVariable ≡ post_answer s p) × (s ≡ post_store s p r)
   unfolding post_answer post_store
   post_absent h = (rw (le-leb s.domains p.domain.0 h), rw (le-leb s.domains p.domain.0 h) (sym (no_push (does s p))))
     where
@@ -39,14 +36,14 @@ module _ (s : Assignments) (p : Predicate) (r : Reason) where
       no_push false = refl
 
   module _ (there : p.domain.0 < s.domains) where
-    pub post_idle : does s p ≡ false → s.trail.length ≤ 1024 → (pick (emptied (domain_before s p)) (Post.Refused Empty) Post.Unchanged ≡ post_answer s p) × (s ≡ post_store s p r)
+    pub post_idle : does s p ≡ false → s.trail.length ≤ 1024 → (pick (emptied (domain_before s p)) (Err Empty) (Ok false) ≡ post_answer s p) × (s ≡ post_store s p r)
     unfolding post_answer post_store
     post_idle e h =
         let room : ltb 1024 (s.trail.length + 0) ≡ false = le-ltb 1024 (s.trail.length + 0) (omega arith) in
         (rw (lt-leb s.domains p.domain.0 there, e, room, after_idle p.kind p.value (domain_before s p) e), rw e)
 
     module _ (acting : does s p ≡ true) where
-      pub post_full : 1024 ≤ s.trail.length → (Post.Refused TrailFull ≡ post_answer s p) × (s ≡ post_store s p r)
+      pub post_full : 1024 ≤ s.trail.length → (Err TrailFull ≡ post_answer s p) × (s ≡ post_store s p r)
       unfolding post_answer post_store
       post_full h =
           let full : ltb 1024 (s.trail.length + 1) ≡ true = lt-ltb 1024 (s.trail.length + 1) (omega arith) in
@@ -56,18 +53,18 @@ module _ (s : Assignments) (p : Predicate) (r : Reason) where
         room : ltb 1024 (s.trail.length + 1) ≡ false
         room = le-ltb 1024 (s.trail.length + 1) (omega arith)
 
-        pub post_overflows : overflows p.kind p.value (domain_before s p) ≡ true → (Post.Refused StepOverflow ≡ post_answer s p) × (s ≡ post_store s p r)
+        pub post_overflows : overflows p.kind p.value (domain_before s p) ≡ true → (Err StepOverflow ≡ post_answer s p) × (s ≡ post_store s p r)
         unfolding post_answer post_store
         post_overflows e = (rw (lt-leb s.domains p.domain.0 there, acting, room, e), rw (lt-leb s.domains p.domain.0 there, acting, room, e))
 
-        pub post_taken : overflows p.kind p.value (domain_before s p) ≡ false → (pick (emptied (moved p.kind p.value (domain_before s p))) (Post.Refused Empty) Post.Changed ≡ post_answer s p) × (posted s p r ≡ post_store s p r)
+        pub post_taken : overflows p.kind p.value (domain_before s p) ≡ false → (pick (emptied (moved p.kind p.value (domain_before s p))) (Err Empty) (Ok true) ≡ post_answer s p) × (posted s p r ≡ post_store s p r)
         unfolding post_answer post_store
         post_taken e = (
           rw (lt-leb s.domains p.domain.0 there, acting, room, e, after_moved p.kind p.value (domain_before s p) acting),
           rw (lt-leb s.domains p.domain.0 there, acting, room, e) (sym (push (emptied (after p.kind p.value (domain_before s p))))),
         )
           where
-            push : (b : Bool) → pick (keeps (pick b (Post.Refused Empty) Post.Changed)) (posted s p r) s ≡ posted s p r
+            push : (b : Bool) → pick (keeps (pick b (Err Empty) (Ok true))) (posted s p r) s ≡ posted s p r
             push true = refl
             push false = refl
 
@@ -84,29 +81,29 @@ module _ (s : Assignments) (p : Predicate) (r : Reason) where
 -- ---- creating
 
 module _ (s : Assignments) (b : Bounds) where
-  pub grow_above : 0 < s.checkpoint → (Grow.Refused NotRoot ≡ grow_answer s b) × (s ≡ grow_store s b)
+  pub grow_above : 0 < s.checkpoint → (Err NotRoot ≡ grow_answer s b) × (s ≡ grow_store s b)
   unfolding grow_answer grow_store
   grow_above h = (rw (lt-ltb 0 s.checkpoint h), rw (lt-ltb 0 s.checkpoint h))
 
   module _ (root : s.checkpoint ≤ 0) where
-    pub grow_bad : lt_z b.upper b.lower ≡ true → (Grow.Refused BadDomain ≡ grow_answer s b) × (s ≡ grow_store s b)
+    pub grow_bad : lt_z b.upper b.lower ≡ true → (Err BadDomain ≡ grow_answer s b) × (s ≡ grow_store s b)
     unfolding grow_answer grow_store
     grow_bad e = (rw (le-ltb 0 s.checkpoint root, e), rw (le-ltb 0 s.checkpoint root, e))
 
     module _ (good : lt_z b.upper b.lower ≡ false) where
-      pub grow_many : 256 ≤ s.domains → (Grow.Refused TooManyVariables ≡ grow_answer s b) × (s ≡ grow_store s b)
+      pub grow_many : 256 ≤ s.domains → (Err TooManyVariables ≡ grow_answer s b) × (s ≡ grow_store s b)
       unfolding grow_answer grow_store
       grow_many h = (rw (le-ltb 0 s.checkpoint root, good, le-leb 256 s.domains h), rw (le-ltb 0 s.checkpoint root, good, le-leb 256 s.domains h))
 
       module _ (few : s.domains < 256) where
-        pub grow_full : 1024 < s.trail.length + 2 → (Grow.Refused TrailFull ≡ grow_answer s b) × (s ≡ grow_store s b)
+        pub grow_full : 1024 < s.trail.length + 2 → (Err TrailFull ≡ grow_answer s b) × (s ≡ grow_store s b)
         unfolding grow_answer grow_store
         grow_full h = (
           rw (le-ltb 0 s.checkpoint root, good, lt-leb 256 s.domains few, lt-ltb 1024 (s.trail.length + 2) h),
           rw (le-ltb 0 s.checkpoint root, good, lt-leb 256 s.domains few, lt-ltb 1024 (s.trail.length + 2) h),
         )
 
-        pub grow_taken : s.trail.length + 2 ≤ 1024 → (Grow.Grown (record { 0 = s.domains }) ≡ grow_answer s b) × (grown s b ≡ grow_store s b)
+        pub grow_taken : s.trail.length + 2 ≤ 1024 → (Ok (record { 0 = s.domains }) ≡ grow_answer s b) × (grown s b ≡ grow_store s b)
         unfolding grow_answer grow_store
         grow_taken h = (
           rw (le-ltb 0 s.checkpoint root, good, lt-leb 256 s.domains few, le-ltb 1024 (s.trail.length + 2) h),
@@ -124,29 +121,29 @@ module _ (s : Assignments) (b : Bounds) where
       go false h false i false j false k = subst P (grow_taken (ltb-false _ _ h) i (leb-false _ _ j) (ltb-false _ _ k)).1 (takes (ltb-false _ _ h) (omega integers) (leb-false _ _ j) (ltb-false _ _ k))
 
 module _ (s : Assignments) (vs : List ℤ) where
-  pub list_above : 0 < s.checkpoint → (Grow.Refused NotRoot ≡ list_answer s vs) × (s ≡ list_store s vs)
+  pub list_above : 0 < s.checkpoint → (Err NotRoot ≡ list_answer s vs) × (s ≡ list_store s vs)
   unfolding list_answer list_store
   list_above h = (rw (lt-ltb 0 s.checkpoint h), rw (lt-ltb 0 s.checkpoint h))
 
   module _ (root : s.checkpoint ≤ 0) where
-    pub list_bad : is_empty vs ≡ true → (Grow.Refused BadDomain ≡ list_answer s vs) × (s ≡ list_store s vs)
+    pub list_bad : is_empty vs ≡ true → (Err BadDomain ≡ list_answer s vs) × (s ≡ list_store s vs)
     unfolding list_answer list_store
     list_bad e = (rw (le-ltb 0 s.checkpoint root, e), rw (le-ltb 0 s.checkpoint root, e))
 
     module _ (good : is_empty vs ≡ false) where
-      pub list_many : 256 ≤ s.domains → (Grow.Refused TooManyVariables ≡ list_answer s vs) × (s ≡ list_store s vs)
+      pub list_many : 256 ≤ s.domains → (Err TooManyVariables ≡ list_answer s vs) × (s ≡ list_store s vs)
       unfolding list_answer list_store
       list_many h = (rw (le-ltb 0 s.checkpoint root, good, le-leb 256 s.domains h), rw (le-ltb 0 s.checkpoint root, good, le-leb 256 s.domains h))
 
       module _ (few : s.domains < 256) where
-        pub list_full : 1024 < s.trail.length + (2 + length (missing vs)) → (Grow.Refused TrailFull ≡ list_answer s vs) × (s ≡ list_store s vs)
+        pub list_full : 1024 < s.trail.length + (2 + length (missing vs)) → (Err TrailFull ≡ list_answer s vs) × (s ≡ list_store s vs)
         unfolding list_answer list_store
         list_full h = (
           rw (le-ltb 0 s.checkpoint root, good, lt-leb 256 s.domains few, lt-ltb 1024 (s.trail.length + (2 + length (missing vs))) h),
           rw (le-ltb 0 s.checkpoint root, good, lt-leb 256 s.domains few, lt-ltb 1024 (s.trail.length + (2 + length (missing vs))) h),
         )
 
-        pub list_taken : s.trail.length + (2 + length (missing vs)) ≤ 1024 → (Grow.Grown (record { 0 = s.domains }) ≡ list_answer s vs) × (listed s vs ≡ list_store s vs)
+        pub list_taken : s.trail.length + (2 + length (missing vs)) ≤ 1024 → (Ok (record { 0 = s.domains }) ≡ list_answer s vs) × (listed s vs ≡ list_store s vs)
         unfolding list_answer list_store
         list_taken h = (
           rw (le-ltb 0 s.checkpoint root, good, lt-leb 256 s.domains few, le-ltb 1024 (s.trail.length + (2 + length (missing vs))) h),
@@ -166,11 +163,11 @@ module _ (s : Assignments) (vs : List ℤ) where
 -- ---- checkpoints
 
 module _ (s : Assignments) where
-  pub open_many : 256 ≤ s.checkpoint → (Open.Refused TooManyCheckpoints ≡ open_answer s) × (s ≡ open_store s)
+  pub open_many : 256 ≤ s.checkpoint → (Err TooManyCheckpoints ≡ open_answer s) × (s ≡ open_store s)
   unfolding open_answer open_store
   open_many h = (rw (le-leb 256 s.checkpoint h), rw (le-leb 256 s.checkpoint h))
 
-  pub open_taken : s.checkpoint < 256 → (Open.Opened (record { 0 = suc s.checkpoint }) ≡ open_answer s) × (opened s ≡ open_store s)
+  pub open_taken : s.checkpoint < 256 → (Ok (record { 0 = suc s.checkpoint }) ≡ open_answer s) × (opened s ≡ open_store s)
   unfolding open_answer open_store
   open_taken h = (rw (lt-leb 256 s.checkpoint h), rw (lt-leb 256 s.checkpoint h))
 
@@ -182,16 +179,16 @@ module _ (s : Assignments) where
       go false h = subst P (open_taken (leb-false _ _ h)).1 (takes (leb-false _ _ h))
 
 module _ (s : Assignments) (k room : ℕ) where
-  pub synchronise_above : s.checkpoint ≤ k → (Synchronise.Refused NotLower ≡ synchronise_answer s k room) × (s ≡ synchronise_store s k room)
+  pub synchronise_above : s.checkpoint ≤ k → (Err NotLower ≡ synchronise_answer s k room) × (s ≡ synchronise_store s k room)
   unfolding synchronise_answer synchronise_store
   synchronise_above h = (rw (le-leb s.checkpoint k h), rw (le-leb s.checkpoint k h))
 
   module _ (lower : k < s.checkpoint) where
-    pub synchronise_short : room < entries_above s k → (Synchronise.Refused NoRoom ≡ synchronise_answer s k room) × (s ≡ synchronise_store s k room)
+    pub synchronise_short : room < entries_above s k → (Err NoRoom ≡ synchronise_answer s k room) × (s ≡ synchronise_store s k room)
     unfolding synchronise_answer synchronise_store
     synchronise_short h = (rw (lt-leb s.checkpoint k lower, lt-ltb room (entries_above s k) h), rw (lt-leb s.checkpoint k lower, lt-ltb room (entries_above s k) h))
 
-    pub synchronise_taken : entries_above s k ≤ room → (Synchronise.Unfixed (length (unfixed (entries_above s k) s)) ≡ synchronise_answer s k room) × (synchronised s k ≡ synchronise_store s k room)
+    pub synchronise_taken : entries_above s k ≤ room → (Ok (length (unfixed (entries_above s k) s)) ≡ synchronise_answer s k room) × (synchronised s k ≡ synchronise_store s k room)
     unfolding synchronise_answer synchronise_store
     synchronise_taken h = (rw (lt-leb s.checkpoint k lower, le-ltb room (entries_above s k) h), rw (lt-leb s.checkpoint k lower, le-ltb room (entries_above s k) h))
 

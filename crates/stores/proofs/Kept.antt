@@ -1,5 +1,6 @@
 -- The promises of Promises.antt, kept: refusals follow the list of their tests, posts the set law of domains, and what holds of a store
 -- holds because public calls make straight stores only.
+use Rattle.std.specs.Prelude.{Result, Ok, Err}
 use Prim.Native.Nat.{ℕ, zero, suc, ◌+◌, ◌≤◌, ◌<◌, min}
 use mathlib.Core.Bool.{Bool, true, false, not, ◌&&◌}
 use mathlib.Core.Path.{◌≡◌, refl, sym, ap, ◌∙◌, subst}
@@ -31,11 +32,6 @@ use Rattle.domains.proofs.Laws as Domains
 use Rattle.stories.specs.declared.Entry.{Entry}
 use Rattle.stories.specs.declared.Refusal.{Refusal}
 use Rattle.stories.specs.declared.Refusal.TheVariants.{NoVariable, NotRoot, BadDomain, TooManyVariables, TrailFull, StepOverflow, Empty, TooManyCheckpoints, NotLower, NoRoom, NoSuchEntry, NoDecision, NoReason}
-use Rattle.stories.specs.declared.GrowAnswer.TheVariants as Grow
-use Rattle.stories.specs.declared.PostAnswer.{PostAnswer}
-use Rattle.stories.specs.declared.PostAnswer.TheVariants as Post
-use Rattle.stories.specs.declared.OpenAnswer.TheVariants as Open
-use Rattle.stories.specs.declared.SynchroniseAnswer.TheVariants as Synchronise
 use Rattle.stores.specs.declared.Assignments.{Assignments}
 use Rattle.stories.specs.Refusals.{number_of, Ground, decided, First}
 use Rattle.stories.specs.Words.{told_of}
@@ -81,16 +77,12 @@ module _ {A : Type 0} (refused : Refusal → A) (answer : A) (told : (q r : Refu
 pub refusal_law : RefusalLaw
 unfolding grow_answer list_answer post_answer open_answer synchronise_answer
 refusal_law = record {
-  grow = λ s b r. exactly Grow.Refused (new_variable s) (λ p q e. cc) (λ q e. never (cc)) (grow_grounds s (lt_z b.upper b.lower) 2) r;
-  list = λ s vs r. exactly Grow.Refused (new_variable s) (λ p q e. cc) (λ q e. never (cc)) (grow_grounds s (is_empty vs) (2 + length (missing vs))) r;
-  post = λ s p r. exactly Post.Refused (pick (does s p) Post.Changed Post.Unchanged) (λ a b e. cc) (λ q e. fine (does s p) q e) (post_grounds s p) r;
-  open_next = λ s r. exactly Open.Refused (Open.Opened (record { 0 = suc s.checkpoint })) (λ p q e. cc) (λ q e. never (cc)) (open_grounds s) r;
-  synchronise = λ s k room r. exactly Synchronise.Refused (Synchronise.Unfixed (length (unfixed (entries_above s k) s))) (λ p q e. cc) (λ q e. never (cc)) (synchronise_grounds s k room) r;
+  grow = λ s b r. exactly Err (new_variable s) (λ p q e. cc) (λ q e. never (cc)) (grow_grounds s (lt_z b.upper b.lower) 2) r;
+  list = λ s vs r. exactly Err (new_variable s) (λ p q e. cc) (λ q e. never (cc)) (grow_grounds s (is_empty vs) (2 + length (missing vs))) r;
+  post = λ s p r. exactly Err (Ok (does s p)) (λ a b e. cc) (λ q e. never (cc)) (post_grounds s p) r;
+  open_next = λ s r. exactly Err (Ok (record { 0 = suc s.checkpoint })) (λ p q e. cc) (λ q e. never (cc)) (open_grounds s) r;
+  synchronise = λ s k room r. exactly Err (Ok (length (unfixed (entries_above s k) s))) (λ p q e. cc) (λ q e. never (cc)) (synchronise_grounds s k room) r;
 }
-  where
-    fine : (b : Bool) (q : Refusal) → pick b Post.Changed Post.Unchanged ≡ Post.Refused q → ⊥
-    fine true q e = never (cc)
-    fine false q e = never (cc)
 
 pub untouched_law : UntouchedLaw
 unfolding grow_store list_store post_store open_store synchronise_store pairs_of
@@ -109,13 +101,13 @@ untouched_law = record {
 pub room_law : RoomLaw
 unfolding post_answer
 room_law s t p a b c = λ i.
-    decided Post.Refused
+    decided Err
     (record { holds = leb (a i) p.domain.0; refusal = NoVariable }
     ∷ record { holds = ltb 1024 (c i + pick (acts p.kind p.value (b i)) 1 0); refusal = TrailFull }
     ∷ record { holds = acts p.kind p.value (b i) && overflows p.kind p.value (b i); refusal = StepOverflow }
     ∷ record { holds = emptied (after p.kind p.value (b i)); refusal = Empty }
     ∷ [])
-    (pick (acts p.kind p.value (b i)) Post.Changed Post.Unchanged)
+    (Ok (acts p.kind p.value (b i)))
 
 pub same_law : SameLaw
 same_law = record {
@@ -142,21 +134,21 @@ module _ (s : Assignments) (made : Made s) (p : Predicate) (why : Reason) (i : S
   posted_other = recorded_other s p why _ _ _ (tidy (straight made)) (meant (straight made)) (post_records s (straight made) p why i there acting room fits)
 
 -- what a post does, case by case: a statement about answer and store holds if it holds in each case
-module _ (s : Assignments) (made : Made s) (p : Predicate) (why : Reason) (P : PostAnswer → Assignments → Type 0) where
+module _ (s : Assignments) (made : Made s) (p : Predicate) (why : Reason) (P : Result Bool Refusal → Assignments → Type 0) where
   post_split :
-      (s.domains ≤ p.domain.0 → P (Post.Refused NoVariable) s) →
-      (p.domain.0 < s.domains → does s p ≡ false → P (pick (emptied (domain_before s p)) (Post.Refused Empty) Post.Unchanged) s) →
-      (p.domain.0 < s.domains → does s p ≡ true → 1024 ≤ s.trail.length → P (Post.Refused TrailFull) s) →
-      (p.domain.0 < s.domains → does s p ≡ true → s.trail.length < 1024 → overflows p.kind p.value (domain_before s p) ≡ true → P (Post.Refused StepOverflow) s) →
-      (p.domain.0 < s.domains → does s p ≡ true → s.trail.length < 1024 → overflows p.kind p.value (domain_before s p) ≡ false → P (pick (emptied (moved p.kind p.value (domain_before s p))) (Post.Refused Empty) Post.Changed) (posted s p why)) →
+      (s.domains ≤ p.domain.0 → P (Err NoVariable) s) →
+      (p.domain.0 < s.domains → does s p ≡ false → P (pick (emptied (domain_before s p)) (Err Empty) (Ok false)) s) →
+      (p.domain.0 < s.domains → does s p ≡ true → 1024 ≤ s.trail.length → P (Err TrailFull) s) →
+      (p.domain.0 < s.domains → does s p ≡ true → s.trail.length < 1024 → overflows p.kind p.value (domain_before s p) ≡ true → P (Err StepOverflow) s) →
+      (p.domain.0 < s.domains → does s p ≡ true → s.trail.length < 1024 → overflows p.kind p.value (domain_before s p) ≡ false → P (pick (emptied (moved p.kind p.value (domain_before s p))) (Err Empty) (Ok true)) (posted s p why)) →
       P (post_answer s p) (post_store s p why)
   post_split absent idle full over takes = go (leb s.domains p.domain.0) refl (does s p) refl (leb 1024 s.trail.length) refl (overflows p.kind p.value (domain_before s p)) refl
     where
       long : s.trail.length ≤ 1024
       long = (tidy (straight made)).entries
 
-      is : {a : PostAnswer} {t : Assignments} → (a ≡ post_answer s p) × (t ≡ post_store s p why) → P a t → P (post_answer s p) (post_store s p why)
-      is {a} {t} e h = subst (P (post_answer s p)) e.1 (subst (λ (z : PostAnswer). P z t) e.0 h)
+      is : {a : Result Bool Refusal} {t : Assignments} → (a ≡ post_answer s p) × (t ≡ post_store s p why) → P a t → P (post_answer s p) (post_store s p why)
+      is {a} {t} e h = subst (P (post_answer s p)) e.1 (subst (λ (z : Result Bool Refusal). P z t) e.0 h)
 
       go : (a : Bool) → leb s.domains p.domain.0 ≡ a → (b : Bool) → does s p ≡ b → (c : Bool) → leb 1024 s.trail.length ≡ c → (d : Bool) → overflows p.kind p.value (domain_before s p) ≡ d → P (post_answer s p) (post_store s p why)
       go true e b f c g d h = is (post_absent s p why (leb-true _ _ e)) (absent (leb-true _ _ e))
@@ -167,7 +159,7 @@ module _ (s : Assignments) (made : Made s) (p : Predicate) (why : Reason) (P : P
 
 pub set_law : SetLaw
 set_law s made p why i =
-    post_split s made p why (λ (a : PostAnswer) (t : Assignments). keeps a ≡ true → ((v : ℤ) → member (domain_of t p.domain.0) v ≡ (member (domain_before s p) v && satisfies p.kind p.value v)) × ((y : ℕ) → y ≢ p.domain.0 → domain_of t y ≡ domain_of s y))
+    post_split s made p why (λ (a : Result Bool Refusal) (t : Assignments). keeps a ≡ true → ((v : ℤ) → member (domain_of t p.domain.0) v ≡ (member (domain_before s p) v && satisfies p.kind p.value v)) × ((y : ℕ) → y ≢ p.domain.0 → domain_of t y ≡ domain_of s y))
     (λ h k. clash k refl)
     (λ h e k. (λ v. ap (λ (d : Domain). member d v) (sym (Domains.after_idle p.kind p.value (domain_before s p) e)) ∙ Domains.set_law p.kind p.value (domain_before s p) v, λ y n. refl))
     (λ h e l k. clash k refl)
@@ -222,42 +214,42 @@ module _ (s : Assignments) (made : Made s) (p : Predicate) (there : p.domain.0 <
       go Equal o t = clash o refl
       go UpperBound o t = clash o refl
 
-  Idle : PostAnswer → Type 0
-  Idle a = (a ≡ Post.Unchanged) ↔ (Lost s p → ⊥)
+  Idle : Result Bool Refusal → Type 0
+  Idle a = (a ≡ (Ok false)) ↔ (Lost s p → ⊥)
 
   unchanged_law : (why : Reason) → Idle (post_answer s p)
   unfolding Idle d
   unchanged_law why =
-      post_split s made p why (λ (a : PostAnswer) (t : Assignments). Idle a)
+      post_split s made p why (λ (a : Result Bool Refusal) (t : Assignments). Idle a)
       (λ h. absurd (omega arith))
       (λ h e. rw some (λ q l. clash (shrinks.1 l) e, λ q. refl))
       (λ h e l. (λ q. never (cc), λ q. absurd (q (shrinks.0 e))))
       (λ h e l o. (λ q. never (cc), λ q. absurd (q (shrinks.0 e))))
       (λ h e l o. (λ q. never (not_idle (emptied (moved p.kind p.value d)) q), λ q. absurd (q (shrinks.0 e))))
     where
-      not_idle : (b : Bool) → pick b (Post.Refused Empty) Post.Changed ≡ Post.Unchanged → ◌≡◌ {A = ℕ} 0 1
+      not_idle : (b : Bool) → pick b (Err Empty) (Ok true) ≡ (Ok false) → ◌≡◌ {A = ℕ} 0 1
       not_idle true q = cc
       not_idle false q = cc
 
-  Changes : PostAnswer → Type 0
-  Changes a = (a ≡ Post.Changed) ↔ (Lost s p × SomeLeft s p × (s.trail.length < 1024))
+  Changes : Result Bool Refusal → Type 0
+  Changes a = (a ≡ (Ok true)) ↔ (Lost s p × SomeLeft s p × (s.trail.length < 1024))
 
   changed_law : (why : Reason) → Changes (post_answer s p)
   unfolding Changes d
   changed_law why =
-      post_split s made p why (λ (a : PostAnswer) (t : Assignments). Changes a)
+      post_split s made p why (λ (a : Result Bool Refusal) (t : Assignments). Changes a)
       (λ h. absurd (omega arith))
       (λ h e. rw some (λ q. never (cc), λ q. clash (shrinks.1 q.0) e))
       (λ h e l. (λ q. never (cc), λ q. absurd (omega arith)))
       (λ h e l o. (λ q. never (cc), λ q. absurd (over_none o q.1)))
       (λ h e l o. (λ q. (shrinks.0 e, least_left (rw (Domains.after_moved p.kind p.value d e) (kept (emptied (moved p.kind p.value d)) q)), l), λ q. rw (rw (Domains.after_moved p.kind p.value d e) at (left_over q.1))))
     where
-      kept : (b : Bool) → pick b (Post.Refused Empty) Post.Changed ≡ Post.Changed → b ≡ false
+      kept : (b : Bool) → pick b (Err Empty) (Ok true) ≡ (Ok true) → b ≡ false
       kept true q = never (cc)
       kept false q = refl
 
-  Empties : PostAnswer → Type 0
-  Empties a = (a ≡ Post.Refused Empty) ↔ ((SomeLeft s p → ⊥) × (s.trail.length < 1024) × (overflows p.kind p.value (domain_before s p) ≡ false))
+  Empties : Result Bool Refusal → Type 0
+  Empties a = (a ≡ Err Empty) ↔ ((SomeLeft s p → ⊥) × (s.trail.length < 1024) × (overflows p.kind p.value (domain_before s p) ≡ false))
 
   -- where nothing is left, something is lost: the least value before
   all_lost : (SomeLeft s p → ⊥) → Lost s p
@@ -269,7 +261,7 @@ module _ (s : Assignments) (made : Made s) (p : Predicate) (there : p.domain.0 <
   emptied_law : (why : Reason) → Empties (post_answer s p)
   unfolding Empties d
   emptied_law why =
-      post_split s made p why (λ (a : PostAnswer) (t : Assignments). Empties a)
+      post_split s made p why (λ (a : Result Bool Refusal) (t : Assignments). Empties a)
       (λ h. absurd (omega arith))
       (λ h e. rw some (λ q. never (cc), λ q. clash (shrinks.1 (all_lost q.0)) e))
       (λ h e l. (λ q. never (cc), λ q. absurd (omega arith)))
@@ -279,40 +271,40 @@ module _ (s : Assignments) (made : Made s) (p : Predicate) (there : p.domain.0 <
         λ q. by_cases (emptied (moved p.kind p.value d)) (λ f. rw f) (λ f. absurd (q.0 (least_left (rw (Domains.after_moved p.kind p.value d e) f)))),
       ))
     where
-      gone : (b : Bool) → pick b (Post.Refused Empty) Post.Changed ≡ Post.Refused Empty → b ≡ true
+      gone : (b : Bool) → pick b (Err Empty) (Ok true) ≡ Err Empty → b ≡ true
       gone true q = refl
       gone false q = never (cc)
 
 -- the rules' number tells the answer
-is_unchanged : (a : PostAnswer) → told_of a ≡ ok 0 → a ≡ Post.Unchanged
-is_unchanged Post.Changed q = never (cc)
-is_unchanged Post.Unchanged q = refl
-is_unchanged (Post.Refused r) q = never (cc)
+is_unchanged : (a : Result Bool Refusal) → told_of a ≡ ok 0 → a ≡ (Ok false)
+is_unchanged (Ok true) q = never (cc)
+is_unchanged (Ok false) q = refl
+is_unchanged (Err r) q = never (cc)
 
-is_changed : (a : PostAnswer) → told_of a ≡ ok 1 → a ≡ Post.Changed
-is_changed Post.Changed q = refl
-is_changed Post.Unchanged q = never (cc)
-is_changed (Post.Refused r) q = never (cc)
+is_changed : (a : Result Bool Refusal) → told_of a ≡ ok 1 → a ≡ (Ok true)
+is_changed (Ok true) q = refl
+is_changed (Ok false) q = never (cc)
+is_changed (Err r) q = never (cc)
 
-is_emptied : (a : PostAnswer) → told_of a ≡ refused 7 → a ≡ Post.Refused Empty
-is_emptied Post.Changed q = never (cc)
-is_emptied Post.Unchanged q = never (cc)
-is_emptied (Post.Refused NoVariable) q = never (cc)
-is_emptied (Post.Refused NotRoot) q = never (cc)
-is_emptied (Post.Refused BadDomain) q = never (cc)
-is_emptied (Post.Refused TooManyVariables) q = never (cc)
-is_emptied (Post.Refused TrailFull) q = never (cc)
-is_emptied (Post.Refused StepOverflow) q = never (cc)
-is_emptied (Post.Refused Empty) q = refl
-is_emptied (Post.Refused TooManyCheckpoints) q = never (cc)
-is_emptied (Post.Refused NotLower) q = never (cc)
-is_emptied (Post.Refused NoRoom) q = never (cc)
-is_emptied (Post.Refused NoSuchEntry) q = never (cc)
-is_emptied (Post.Refused NoDecision) q = never (cc)
-is_emptied (Post.Refused NoReason) q = never (cc)
+is_emptied : (a : Result Bool Refusal) → told_of a ≡ refused 7 → a ≡ Err Empty
+is_emptied (Ok true) q = never (cc)
+is_emptied (Ok false) q = never (cc)
+is_emptied (Err NoVariable) q = never (cc)
+is_emptied (Err NotRoot) q = never (cc)
+is_emptied (Err BadDomain) q = never (cc)
+is_emptied (Err TooManyVariables) q = never (cc)
+is_emptied (Err TrailFull) q = never (cc)
+is_emptied (Err StepOverflow) q = never (cc)
+is_emptied (Err Empty) q = refl
+is_emptied (Err TooManyCheckpoints) q = never (cc)
+is_emptied (Err NotLower) q = never (cc)
+is_emptied (Err NoRoom) q = never (cc)
+is_emptied (Err NoSuchEntry) q = never (cc)
+is_emptied (Err NoDecision) q = never (cc)
+is_emptied (Err NoReason) q = never (cc)
 
 -- the number in place of the answer
-by_number : {a b : PostAnswer} {X : Type 0} → (told_of a ≡ told_of b → a ≡ b) → (a ≡ b) ↔ X → (told_of a ≡ told_of b) ↔ X
+by_number : {a b : Result Bool Refusal} {X : Type 0} → (told_of a ≡ told_of b → a ≡ b) → (a ≡ b) ↔ X → (told_of a ≡ told_of b) ↔ X
 by_number tells h = (λ q. h.0 (tells q), λ x. ap told_of (h.1 x))
 
 -- a post that is taken puts its entry at the trail's end
@@ -331,13 +323,13 @@ unfolding post_store Idle Changes Empties Entered
 answer_law = record {
   unchanged = λ s made p there some. by_number (is_unchanged (post_answer s p)) (unchanged_law s made p there some None);
   no_entry = λ s made p why q.
-      post_split s made p why (λ (a : PostAnswer) (t : Assignments). a ≡ Post.Unchanged → t ≡ s)
+      post_split s made p why (λ (a : Result Bool Refusal) (t : Assignments). a ≡ (Ok false) → t ≡ s)
       (λ h e. refl) (λ h f e. refl) (λ h f l e. refl) (λ h f l o e. refl)
       (λ h f l o e. never (taken (emptied (moved p.kind p.value (domain_before s p))) e))
       (is_unchanged (post_answer s p) q);
   one_entry = λ s made p why q.
       let one : Entered s p why (post_store s p why) =
-      post_split s made p why (λ (a : PostAnswer) (t : Assignments). a ≡ Post.Changed → Entered s p why t)
+      post_split s made p why (λ (a : Result Bool Refusal) (t : Assignments). a ≡ (Ok true) → Entered s p why t)
       (λ h e. never (cc)) (λ h f e. never (idle (emptied (domain_before s p)) e)) (λ h f l e. never (cc)) (λ h f l o e. never (cc))
       (λ h f l o e. posted_enters s made p why l)
       (is_changed (post_answer s p) q)
@@ -347,11 +339,11 @@ answer_law = record {
   emptied_by = λ s made p there some. by_number (is_emptied (post_answer s p)) (emptied_law s made p there some None);
 }
   where
-    taken : (b : Bool) → pick b (Post.Refused Empty) Post.Changed ≡ Post.Unchanged → ◌≡◌ {A = ℕ} 0 1
+    taken : (b : Bool) → pick b (Err Empty) (Ok true) ≡ (Ok false) → ◌≡◌ {A = ℕ} 0 1
     taken true q = cc
     taken false q = cc
 
-    idle : (b : Bool) → pick b (Post.Refused Empty) Post.Unchanged ≡ Post.Changed → ◌≡◌ {A = ℕ} 0 1
+    idle : (b : Bool) → pick b (Err Empty) (Ok false) ≡ (Ok true) → ◌≡◌ {A = ℕ} 0 1
     idle true q = cc
     idle false q = cc
 

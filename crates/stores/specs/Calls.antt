@@ -1,25 +1,19 @@
 -- What each call answers and leaves behind (RULES.md, "Refusal numbers", "Creating", "Posts", "Synchronise"): the refusals in their
 -- order, and then what the call does. Assumes nothing.
-use Rattle.std.specs.Prelude.{ℕ, zero, suc, ◌+◌, ◌-◌, Bool, true, false, ◌&&◌, List, [], ◌∷◌, ℤ, pos, length, get_or, ltb, leb, eqb}
+use Rattle.std.specs.Prelude.{ℕ, zero, suc, ◌+◌, ◌-◌, Bool, true, false, ◌&&◌, List, [], ◌∷◌, ℤ, pos, length, get_or, ltb, leb, eqb, Result, Ok, Err, is_ok}
 use Rattle.std.specs.Int.Signed.{lt_z}
+use Rattle.predicates.specs.declared.Checkpoint.{Checkpoint}
+use Rattle.predicates.specs.declared.DomainId.{DomainId}
 use Rattle.predicates.specs.declared.Predicate.{Predicate}
 use Rattle.predicates.specs.declared.Reason.{Reason}
 use Rattle.predicates.specs.declared.Reason.TheVariants.{None}
 use Rattle.domains.specs.declared.Bounds.{Bounds}
 use Rattle.domains.specs.Choice.{pick}
 use Rattle.domains.specs.Domain.{Domain, emptied, acts, overflows, lower_after, upper_after, after}
+use Rattle.stories.specs.declared.Entry.{Entry}
+use Rattle.stories.specs.declared.Refusal.{Refusal}
 use Rattle.stories.specs.declared.Refusal.TheVariants.{NoVariable, NotRoot, BadDomain, TooManyVariables, TrailFull, StepOverflow, Empty, TooManyCheckpoints, NotLower, NoRoom, NoSuchEntry}
 use Rattle.stories.specs.Refusals.{number_of, Ground, decided}
-use Rattle.stories.specs.declared.GrowAnswer.{GrowAnswer}
-use Rattle.stories.specs.declared.GrowAnswer.TheVariants as Grow
-use Rattle.stories.specs.declared.PostAnswer.{PostAnswer}
-use Rattle.stories.specs.declared.PostAnswer.TheVariants as Post
-use Rattle.stories.specs.declared.OpenAnswer.{OpenAnswer}
-use Rattle.stories.specs.declared.OpenAnswer.TheVariants as Open
-use Rattle.stories.specs.declared.SynchroniseAnswer.{SynchroniseAnswer}
-use Rattle.stories.specs.declared.SynchroniseAnswer.TheVariants as Synchronise
-use Rattle.stories.specs.declared.EntryAnswer.{EntryAnswer}
-use Rattle.stories.specs.declared.EntryAnswer.TheVariants as Ask
 use Rattle.stories.specs.Story.{Pair}
 use Rattle.stories.specs.Calls.{at_least, at_most, not_equal, span_of, missing, is_empty}
 use Rattle.stores.specs.declared.Assignments.{Assignments}
@@ -45,18 +39,14 @@ grow_grounds s bad needed =
     ∷ record { holds = ltb 1024 (s.trail.length + needed); refusal = TrailFull }
     ∷ []
 
-abbrev pub new_variable : Assignments → GrowAnswer
-new_variable s = Grow.Grown (record { 0 = s.domains })
+abbrev pub new_variable : Assignments → Result DomainId Refusal
+new_variable s = Ok (record { 0 = s.domains })
 
-unfoldable pub grow_answer : Assignments → Bounds → GrowAnswer
-grow_answer s b = decided Grow.Refused (grow_grounds s (lt_z b.upper b.lower) 2) (new_variable s)
-
-abbrev pub grows : GrowAnswer → Bool
-grows (Grow.Grown x) = true
-grows (Grow.Refused r) = false
+unfoldable pub grow_answer : Assignments → Bounds → Result DomainId Refusal
+grow_answer s b = decided Err (grow_grounds s (lt_z b.upper b.lower) 2) (new_variable s)
 
 unfoldable pub grow_store : Assignments → Bounds → Assignments
-grow_store s b = pick (grows (grow_answer s b)) (grown s b) s
+grow_store s b = pick (is_ok (grow_answer s b)) (grown s b) s
 
 -- ---- posts
 
@@ -88,14 +78,13 @@ post_grounds s p =
     ∷ record { holds = emptied (after p.kind p.value (domain_before s p)); refusal = Empty }
     ∷ []
 
-unfoldable pub post_answer : Assignments → Predicate → PostAnswer
-post_answer s p = decided Post.Refused (post_grounds s p) (pick (does s p) Post.Changed Post.Unchanged)
+unfoldable pub post_answer : Assignments → Predicate → Result Bool Refusal
+post_answer s p = decided Err (post_grounds s p) (Ok (does s p))
 
 -- every refusal but 7 leaves the store as it was
-abbrev pub keeps : PostAnswer → Bool
-keeps Post.Changed = true
-keeps Post.Unchanged = true
-keeps (Post.Refused r) = eqb (number_of r) 7
+abbrev pub keeps : Result Bool Refusal → Bool
+keeps (Ok changed) = true
+keeps (Err r) = eqb (number_of r) 7
 
 unfoldable pub post_store : Assignments → Predicate → Reason → Assignments
 post_store s p r = pick (does s p && keeps (post_answer s p)) (posted s p r) s
@@ -111,11 +100,11 @@ removed_all s x (v ∷ vs) = removed_all (posted s (not_equal x v) None) x vs
 unfoldable pub listed : Assignments → List ℤ → Assignments
 listed s vs = marked (removed_all (grown s (span_of vs)) s.domains (missing vs)) s.domains
 
-unfoldable pub list_answer : Assignments → List ℤ → GrowAnswer
-list_answer s vs = decided Grow.Refused (grow_grounds s (is_empty vs) (2 + length (missing vs))) (new_variable s)
+unfoldable pub list_answer : Assignments → List ℤ → Result DomainId Refusal
+list_answer s vs = decided Err (grow_grounds s (is_empty vs) (2 + length (missing vs))) (new_variable s)
 
 unfoldable pub list_store : Assignments → List ℤ → Assignments
-list_store s vs = pick (grows (list_answer s vs)) (listed s vs) s
+list_store s vs = pick (is_ok (list_answer s vs)) (listed s vs) s
 
 -- ---- checkpoints
 
@@ -123,15 +112,11 @@ list_store s vs = pick (grows (list_answer s vs)) (listed s vs) s
 abbrev pub open_grounds : Assignments → List Ground
 open_grounds s = record { holds = leb 256 s.checkpoint; refusal = TooManyCheckpoints } ∷ []
 
-unfoldable pub open_answer : Assignments → OpenAnswer
-open_answer s = decided Open.Refused (open_grounds s) (Open.Opened (record { 0 = suc s.checkpoint }))
-
-abbrev pub opens : OpenAnswer → Bool
-opens (Open.Opened c) = true
-opens (Open.Refused r) = false
+unfoldable pub open_answer : Assignments → Result Checkpoint Refusal
+open_answer s = decided Err (open_grounds s) (Ok (record { 0 = suc s.checkpoint }))
 
 unfoldable pub open_store : Assignments → Assignments
-open_store s = pick (opens (open_answer s)) (opened s) s
+open_store s = pick (is_ok (open_answer s)) (opened s) s
 
 -- ---- synchronise
 
@@ -158,22 +143,18 @@ synchronise_grounds s k room =
     ∷ record { holds = ltb room (entries_above s k); refusal = NoRoom }
     ∷ []
 
-unfoldable pub synchronise_answer : Assignments → ℕ → ℕ → SynchroniseAnswer
-synchronise_answer s k room = decided Synchronise.Refused (synchronise_grounds s k room) (Synchronise.Unfixed (length (unfixed (entries_above s k) s)))
-
-abbrev pub synchronises : SynchroniseAnswer → Bool
-synchronises (Synchronise.Unfixed n) = true
-synchronises (Synchronise.Refused r) = false
+unfoldable pub synchronise_answer : Assignments → ℕ → ℕ → Result ℕ Refusal
+synchronise_answer s k room = decided Err (synchronise_grounds s k room) (Ok (length (unfixed (entries_above s k) s)))
 
 unfoldable pub synchronise_store : Assignments → ℕ → ℕ → Assignments
-synchronise_store s k room = pick (synchronises (synchronise_answer s k room)) (synchronised s k) s
+synchronise_store s k room = pick (is_ok (synchronise_answer s k room)) (synchronised s k) s
 
 -- what it writes to the lent slices: the pairs, or nothing if it is refused
 unfoldable pub pairs_of : Assignments → ℕ → ℕ → List Pair
-pairs_of s k room = pick (synchronises (synchronise_answer s k room)) (unfixed (entries_above s k) s) []
+pairs_of s k room = pick (is_ok (synchronise_answer s k room)) (unfixed (entries_above s k) s) []
 
 -- ---- an entry of the trail
 
 -- 11
-unfoldable pub entry_answer : Assignments → ℕ → EntryAnswer
-entry_answer s n = decided Ask.Refused (record { holds = leb s.trail.length n; refusal = NoSuchEntry } ∷ []) (Ask.Found (entry_of s n))
+unfoldable pub entry_answer : Assignments → ℕ → Result Entry Refusal
+entry_answer s n = decided Err (record { holds = leb s.trail.length n; refusal = NoSuchEntry } ∷ []) (Ok (entry_of s n))

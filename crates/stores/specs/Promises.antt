@@ -1,24 +1,19 @@
 -- What is promised of the store: statements alone, in the order of the demands. The proofs are in Kept.antt. Believe the definitions that
 -- these cite (Refusals, Words, Store, Calls, Made, Replay, Positions, and Domain of domains) and nothing else. Assumes nothing.
-use Rattle.std.specs.Prelude.{ℕ, suc, ◌+◌, ◌≤◌, ◌<◌, min, true, false, ◌&&◌, ◌≡◌, ◌≢◌, ◌↔◌, List, [], ℤ, length}
+use Rattle.std.specs.Prelude.{ℕ, suc, ◌+◌, ◌≤◌, ◌<◌, min, Bool, true, false, ◌&&◌, ◌≡◌, ◌≢◌, ◌↔◌, List, [], ℤ, length, Err}
 use Rattle.std.specs.Int.Signed.{lt_z}
 use Rattle.std.specs.Int.{w32}
 use Rattle.std.proofs.Common.{SFits}
+use Rattle.predicates.specs.declared.Checkpoint.{Checkpoint}
+use Rattle.predicates.specs.declared.DomainId.{DomainId}
 use Rattle.predicates.specs.declared.Predicate.{Predicate}
 use Rattle.predicates.specs.declared.Reason.{Reason}
 use Rattle.domains.specs.declared.Bounds.{Bounds}
 use Rattle.domains.specs.Domain.{satisfies, member, emptied, overflows}
 use Rattle.domains.specs.Promises.{Tight}
 use Rattle.stories.specs.declared.Refusal.{Refusal}
-use Rattle.stories.specs.declared.GrowAnswer.TheVariants as Grow
-use Rattle.stories.specs.declared.PostAnswer.TheVariants as Post
-use Rattle.stories.specs.declared.OpenAnswer.TheVariants as Open
-use Rattle.stories.specs.declared.SynchroniseAnswer.TheVariants as Synchronise
-use Rattle.stores.specs.declared.Grew.{Grew}
-use Rattle.stores.specs.declared.Posted.{Posted}
-use Rattle.stores.specs.declared.Opened.{Opened}
-use Rattle.stores.specs.declared.Synchronised.{Synchronised}
 use Rattle.stores.specs.declared.Assignments.{Assignments}
+use Rattle.stores.specs.declared.Called.{Called}
 use Rattle.stories.specs.Refusals.{number_of, First}
 use Rattle.stories.specs.Words.{told_of, reason_of}
 use Rattle.stories.specs.Words.Told.{ok, refused}
@@ -34,19 +29,19 @@ use Rattle.stores.specs.Positions.{domain_at}
 
 -- each call's answer is a refusal exactly when that is the first in the call's order of which the test holds
 pub record RefusalLaw : Type 0 where
-  pub grow : (s : Assignments) (b : Bounds) (r : Refusal) → (grow_answer s b ≡ Grow.Refused r) ↔ First (grow_grounds s (lt_z b.upper b.lower) 2) r
-  pub list : (s : Assignments) (vs : List ℤ) (r : Refusal) → (list_answer s vs ≡ Grow.Refused r) ↔ First (grow_grounds s (is_empty vs) (2 + length (missing vs))) r
-  pub post : (s : Assignments) (p : Predicate) (r : Refusal) → (post_answer s p ≡ Post.Refused r) ↔ First (post_grounds s p) r
-  pub open_next : (s : Assignments) (r : Refusal) → (open_answer s ≡ Open.Refused r) ↔ First (open_grounds s) r
-  pub synchronise : (s : Assignments) (k room : ℕ) (r : Refusal) → (synchronise_answer s k room ≡ Synchronise.Refused r) ↔ First (synchronise_grounds s k room) r
+  pub grow : (s : Assignments) (b : Bounds) (r : Refusal) → (grow_answer s b ≡ Err r) ↔ First (grow_grounds s (lt_z b.upper b.lower) 2) r
+  pub list : (s : Assignments) (vs : List ℤ) (r : Refusal) → (list_answer s vs ≡ Err r) ↔ First (grow_grounds s (is_empty vs) (2 + length (missing vs))) r
+  pub post : (s : Assignments) (p : Predicate) (r : Refusal) → (post_answer s p ≡ Err r) ↔ First (post_grounds s p) r
+  pub open_next : (s : Assignments) (r : Refusal) → (open_answer s ≡ Err r) ↔ First (open_grounds s) r
+  pub synchronise : (s : Assignments) (k room : ℕ) (r : Refusal) → (synchronise_answer s k room ≡ Err r) ↔ First (synchronise_grounds s k room) r
 
 -- every refusal but 7 leaves the store as it was, and a refused synchronise writes nothing
 pub record UntouchedLaw : Type 0 where
-  pub grow : (s : Assignments) (b : Bounds) (r : Refusal) → grow_answer s b ≡ Grow.Refused r → grow_store s b ≡ s
-  pub list : (s : Assignments) (vs : List ℤ) (r : Refusal) → list_answer s vs ≡ Grow.Refused r → list_store s vs ≡ s
-  pub post : (s : Assignments) (p : Predicate) (why : Reason) (r : Refusal) → post_answer s p ≡ Post.Refused r → number_of r ≢ 7 → post_store s p why ≡ s
-  pub open_next : (s : Assignments) (r : Refusal) → open_answer s ≡ Open.Refused r → open_store s ≡ s
-  pub synchronise : (s : Assignments) (k room : ℕ) (r : Refusal) → synchronise_answer s k room ≡ Synchronise.Refused r → (synchronise_store s k room ≡ s) × (pairs_of s k room ≡ [])
+  pub grow : (s : Assignments) (b : Bounds) (r : Refusal) → grow_answer s b ≡ Err r → grow_store s b ≡ s
+  pub list : (s : Assignments) (vs : List ℤ) (r : Refusal) → list_answer s vs ≡ Err r → list_store s vs ≡ s
+  pub post : (s : Assignments) (p : Predicate) (why : Reason) (r : Refusal) → post_answer s p ≡ Err r → number_of r ≢ 7 → post_store s p why ≡ s
+  pub open_next : (s : Assignments) (r : Refusal) → open_answer s ≡ Err r → open_store s ≡ s
+  pub synchronise : (s : Assignments) (k room : ℕ) (r : Refusal) → synchronise_answer s k room ≡ Err r → (synchronise_store s k room ≡ s) × (pairs_of s k room ≡ [])
 
 -- what a post answers depends on the number of variables, the variable's domain and the number of entries now on the trail, and on
 -- nothing else: room that a synchronise freed is used again
@@ -55,15 +50,15 @@ RoomLaw = (s t : Assignments) (p : Predicate) → s.domains ≡ t.domains → do
 
 -- any two results that conform to a call's statement are equal, lent memory included
 pub record SameLaw : Type 1 where
-  pub grow : (s : Assignments) (b : Bounds) (r t : Grew) →
+  pub grow : (s : Assignments) (b : Bounds) (r t : Called DomainId) →
       (r.answer ≡ grow_answer s b) × (r.store ≡ grow_store s b) → (t.answer ≡ grow_answer s b) × (t.store ≡ grow_store s b) → r ≡ t
-  pub list : (s : Assignments) (vs : List ℤ) (r t : Grew) →
+  pub list : (s : Assignments) (vs : List ℤ) (r t : Called DomainId) →
       (r.answer ≡ list_answer s vs) × (r.store ≡ list_store s vs) → (t.answer ≡ list_answer s vs) × (t.store ≡ list_store s vs) → r ≡ t
-  pub post : (s : Assignments) (p : Predicate) (why : Reason) (r t : Posted) →
+  pub post : (s : Assignments) (p : Predicate) (why : Reason) (r t : Called Bool) →
       (r.answer ≡ post_answer s p) × (r.store ≡ post_store s p why) → (t.answer ≡ post_answer s p) × (t.store ≡ post_store s p why) → r ≡ t
-  pub open_next : (s : Assignments) (r t : Opened) →
+  pub open_next : (s : Assignments) (r t : Called Checkpoint) →
       (r.answer ≡ open_answer s) × (r.store ≡ open_store s) → (t.answer ≡ open_answer s) × (t.store ≡ open_store s) → r ≡ t
-  pub synchronise : (s : Assignments) (k room : ℕ) (r t : Synchronised) →
+  pub synchronise : (s : Assignments) (k room : ℕ) (r t : Called ℕ) →
       (r.answer ≡ synchronise_answer s k room) × (r.store ≡ synchronise_store s k room) → (t.answer ≡ synchronise_answer s k room) × (t.store ≡ synchronise_store s k room) → r ≡ t
   -- a look's answer, and a lent slice, are equal to one thing
   pub look : {A : Type 0} {x y told : A} → x ≡ told → y ≡ told → x ≡ y

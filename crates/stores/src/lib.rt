@@ -10,7 +10,7 @@ ghost use Rattle.stores.specs.Made.{Made};
 use domains::Bounds;
 use pools::{Pool, Update};
 use predicates::{Checkpoint, DomainId, Predicate, Reason, TrailPosition};
-use stories::{Entry, EntryAnswer, GrowAnswer, OpenAnswer, PostAnswer, Refusal, SynchroniseAnswer};
+use stories::{Entry, Refusal};
 
 // The entries, oldest first; what is past the length is blank.
 #[derive(Clone, Copy)]
@@ -140,16 +140,16 @@ impl Assignments {
         self.trail.length
     }
 
-    pub fn get_trail_entry(self, position: TrailPosition) -> EntryAnswer
+    pub fn get_trail_entry(self, position: TrailPosition) -> Result<Entry, Refusal>
         requires { Made self }
         ensures { result ≡ entry_answer self position.0 }
     {
         let at = position.0 as usize;
         let trail = self.trail;
         if trail.length <= at {
-            return EntryAnswer::Refused(Refusal::NoSuchEntry);
+            return Err(Refusal::NoSuchEntry);
         }
-        EntryAnswer::Found(trail.entries[at])
+        Ok(trail.entries[at])
     }
 
     pub fn get_pruned_value_count(self) -> u64
@@ -159,26 +159,9 @@ impl Assignments {
     }
 }
 
+// What a call gives back: the store after it, and what it answers.
 #[derive(Clone, Copy)]
-pub struct Grew {
+pub struct Called<T> {
     pub store: Assignments,
-    pub answer: GrowAnswer,
-}
-
-#[derive(Clone, Copy)]
-pub struct Posted {
-    pub store: Assignments,
-    pub answer: PostAnswer,
-}
-
-#[derive(Clone, Copy)]
-pub struct Opened {
-    pub store: Assignments,
-    pub answer: OpenAnswer,
-}
-
-#[derive(Clone, Copy)]
-pub struct Synchronised {
-    pub store: Assignments,
-    pub answer: SynchroniseAnswer,
+    pub answer: Result<T, Refusal>,
 }

@@ -1,10 +1,12 @@
 -- The calls that change a store: what refuses each, what it does to the story and what it answers (RULES.md, "Refusal numbers",
 -- "Creating", "Posts", "Synchronise"). Assumes nothing.
-use Rattle.std.specs.Prelude.{ℕ, zero, suc, ◌+◌, ◌-◌, ◌<◌, Bool, true, false, ◌&&◌, List, [], ◌∷◌, ◌++◌, map, ℤ, pos, length, get_or, take, drop, ltb, leb, eqb}
+use Rattle.std.specs.Prelude.{ℕ, zero, suc, ◌+◌, ◌-◌, ◌<◌, Bool, true, false, ◌&&◌, List, [], ◌∷◌, ◌++◌, map, ℤ, pos, length, get_or, take, drop, Result, Ok, Err, ltb, leb, eqb}
 use Rattle.std.proofs.Math.IntN.{suc_ℤ}
 use Rattle.std.specs.Int.Signed.{lt_z}
 use Rattle.std.specs.Int.{w32}
 use Rattle.std.proofs.Common.{SFits}
+use Rattle.predicates.specs.declared.Checkpoint.{Checkpoint}
+use Rattle.predicates.specs.declared.DomainId.{DomainId}
 use Rattle.predicates.specs.declared.Predicate.{Predicate}
 use Rattle.predicates.specs.declared.PredicateType.TheVariants.{LowerBound, NotEqual, UpperBound}
 use Rattle.predicates.specs.declared.Reason.TheVariants.{None}
@@ -15,14 +17,6 @@ use Rattle.stories.specs.declared.Post.{Post}
 use Rattle.stories.specs.declared.Entry.{Entry}
 use Rattle.stories.specs.declared.Refusal.{Refusal}
 use Rattle.stories.specs.declared.Refusal.TheVariants.{NoVariable, NotRoot, BadDomain, TooManyVariables, TrailFull, StepOverflow, Empty, TooManyCheckpoints, NotLower, NoRoom}
-use Rattle.stories.specs.declared.GrowAnswer.{GrowAnswer}
-use Rattle.stories.specs.declared.GrowAnswer.TheVariants as Grow
-use Rattle.stories.specs.declared.PostAnswer.{PostAnswer}
-use Rattle.stories.specs.declared.PostAnswer.TheVariants as Posted
-use Rattle.stories.specs.declared.OpenAnswer.{OpenAnswer}
-use Rattle.stories.specs.declared.OpenAnswer.TheVariants as Open
-use Rattle.stories.specs.declared.SynchroniseAnswer.{SynchroniseAnswer}
-use Rattle.stories.specs.declared.SynchroniseAnswer.TheVariants as Synchronise
 use Rattle.stories.specs.Capacities.{max_variables, max_entries, max_checkpoints}
 use Rattle.stories.specs.Refusals.{number_of, Ground, ground, decided}
 use Rattle.stories.specs.Story.{Story, State, bounds_of, domain_now, pruned, start_above, entries_above, Pair, pairs_above}
@@ -164,20 +158,21 @@ next t c = decided (λ (r : Refusal). pick (eqb (number_of r) 7) (done t c) t) (
 unfoldable pub next_state : State → Call → State
 next_state s c = record { story = next s.story c; count = s.count + pruned (next s.story c) - pruned s.story }
 
--- what each call answers: the new variable's number, changed or unchanged, the new checkpoint's number, how many pairs there are
+-- what each call answers that is not refused: the new variable's number, whether something changed, the new checkpoint's number, how
+-- many pairs there are
 abbrev pub Answer : Call → Type 0
-Answer (Call.grow b) = GrowAnswer
-Answer (Call.list vs) = GrowAnswer
-Answer (Call.post p) = PostAnswer
-Answer Call.new_checkpoint = OpenAnswer
-Answer (Call.synchronise k room) = SynchroniseAnswer
+Answer (Call.grow b) = Result DomainId Refusal
+Answer (Call.list vs) = Result DomainId Refusal
+Answer (Call.post p) = Result Bool Refusal
+Answer Call.new_checkpoint = Result Checkpoint Refusal
+Answer (Call.synchronise k room) = Result ℕ Refusal
 
 unfoldable pub answer : Story → (c : Call) → Answer c
-answer t (Call.grow b) = decided Grow.Refused (grounds t (Call.grow b)) (Grow.Grown (record { 0 = length t.variables }))
-answer t (Call.list vs) = decided Grow.Refused (grounds t (Call.list vs)) (Grow.Grown (record { 0 = length t.variables }))
-answer t (Call.post p) = decided Posted.Refused (grounds t (Call.post p)) (pick (acting t p.predicate) Posted.Changed Posted.Unchanged)
-answer t Call.new_checkpoint = decided Open.Refused (grounds t Call.new_checkpoint) (Open.Opened (record { 0 = suc (length t.opens) }))
-answer t (Call.synchronise k room) = decided Synchronise.Refused (grounds t (Call.synchronise k room)) (Synchronise.Unfixed (length (pairs_above t k)))
+answer t (Call.grow b) = decided Err (grounds t (Call.grow b)) (Ok (record { 0 = length t.variables }))
+answer t (Call.list vs) = decided Err (grounds t (Call.list vs)) (Ok (record { 0 = length t.variables }))
+answer t (Call.post p) = decided Err (grounds t (Call.post p)) (Ok (acting t p.predicate))
+answer t Call.new_checkpoint = decided Err (grounds t Call.new_checkpoint) (Ok (record { 0 = suc (length t.opens) }))
+answer t (Call.synchronise k room) = decided Err (grounds t (Call.synchronise k room)) (Ok (length (pairs_above t k)))
 
 -- the pairs that a synchronise writes: none if it is refused
 unfoldable pub pairs_of : Story → ℕ → ℕ → List Pair

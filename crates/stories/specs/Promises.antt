@@ -1,16 +1,12 @@
 -- What is promised of every store, told of its story: statements alone, in the order of the demands. Nothing
 -- proves them of stories yet; what is proved of stores is in Promises.antt of stores. Believe the definitions that these cite (Refusals,
 -- Words, Story and Calls; Domain of domains) and nothing else. Assumes nothing.
-use Rattle.std.specs.Prelude.{ℕ, suc, ◌≤◌, ◌<◌, true, false, ◌&&◌, ◌≡◌, ◌≢◌, ◌↔◌, [], ℤ, length, get_or}
+use Rattle.std.specs.Prelude.{ℕ, suc, ◌≤◌, ◌<◌, true, false, ◌&&◌, ◌≡◌, ◌≢◌, ◌↔◌, [], ℤ, length, get_or, Err}
 use Rattle.domains.specs.Domain.{satisfies, member, emptied, overflows}
 use Rattle.domains.specs.Promises.{Tight}
 use Rattle.stories.specs.declared.Post.{Post}
 use Rattle.stories.specs.declared.Entry.{Entry}
 use Rattle.stories.specs.declared.Refusal.{Refusal}
-use Rattle.stories.specs.declared.GrowAnswer.TheVariants as Grow
-use Rattle.stories.specs.declared.PostAnswer.TheVariants as Posted
-use Rattle.stories.specs.declared.OpenAnswer.TheVariants as Open
-use Rattle.stories.specs.declared.SynchroniseAnswer.TheVariants as Synchronise
 use Rattle.stories.specs.Capacities.{max_variables, max_entries, max_checkpoints}
 use Rattle.stories.specs.Refusals.{number_of, First}
 use Rattle.stories.specs.Words.{Told, told_of, reason_of}
@@ -22,11 +18,11 @@ use Rattle.stories.specs.Calls.{Call, domain_before, grounds, next, Answer, answ
 
 -- a call of each kind is refused with r
 abbrev pub refusing : (c : Call) → Refusal → Answer c
-refusing (Call.grow b) r = Grow.Refused r
-refusing (Call.list vs) r = Grow.Refused r
-refusing (Call.post p) r = Posted.Refused r
-refusing Call.new_checkpoint r = Open.Refused r
-refusing (Call.synchronise k room) r = Synchronise.Refused r
+refusing (Call.grow b) r = Err r
+refusing (Call.list vs) r = Err r
+refusing (Call.post p) r = Err r
+refusing Call.new_checkpoint r = Err r
+refusing (Call.synchronise k room) r = Err r
 
 -- each call's answer is a refusal exactly when that is the first in the call's order of which the test holds
 abbrev pub RefusalLaw : Type 0
@@ -35,7 +31,7 @@ RefusalLaw = (t : Story) (c : Call) (r : Refusal) → (answer t c ≡ refusing c
 -- every refusal but 7 leaves the story as it was, and a refused synchronise writes nothing
 pub record UntouchedLaw : Type 0 where
   pub story : (t : Story) (c : Call) (r : Refusal) → answer t c ≡ refusing c r → number_of r ≢ 7 → next t c ≡ t
-  pub lent : (t : Story) (k room : ℕ) (r : Refusal) → answer t (Call.synchronise k room) ≡ Synchronise.Refused r → pairs_of t k room ≡ []
+  pub lent : (t : Story) (k room : ℕ) (r : Refusal) → answer t (Call.synchronise k room) ≡ Err r → pairs_of t k room ≡ []
 
 -- what a post answers depends on the number of variables, the variable's domain and the number of entries now on the trail, and on
 -- nothing else: room that a synchronise freed is used again
@@ -56,7 +52,7 @@ entry_at t n = get_or t.entries n no_entry
 
 -- a post that is taken, or refused with 7, keeps its entry
 abbrev pub Kept : Story → Post → Type 0
-Kept t p = (r : Refusal) → answer t (Call.post p) ≡ Posted.Refused r → number_of r ≡ 7
+Kept t p = (r : Refusal) → answer t (Call.post p) ≡ Err r → number_of r ≡ 7
 
 -- then exactly the values before that satisfy it are left, and every other variable is as it was
 abbrev pub SetLaw : Type 0

@@ -1,13 +1,15 @@
-// What is told of a store: an entry of its trail, why a call is refused, what the calls and the questions answer. The story that these
-// make up, what each call does to it and answers, and what is promised of it are in specs/: a reader believes that and nothing below it.
+// What is told of a store: an entry of its trail, and why a call is refused. The story that these make up, what each call does to it
+// and answers, and what is promised of it are in specs/: a reader believes that and nothing below it. A call answers a `Result` whose
+// error is the refusal; a post `Ok(true)` where it changed the domain.
 // Relies on predicates and domains.
 #![tactic(auto)]
 
 ghost use Rattle.std.specs.Prelude.{◌≡◌};
+ghost use Rattle.stories.specs.Refusals.{number_of};
 ghost use Rattle.stories.specs.Story.{no_entry};
 
 use domains::Bounds;
-use predicates::{Checkpoint, DomainId, Predicate, Reason};
+use predicates::{DomainId, Predicate, Reason};
 
 // A predicate and why it is posted.
 #[derive(Clone, Copy)]
@@ -38,7 +40,7 @@ impl Entry {
 }
 
 // Why a call was refused.
-#[derive(Clone, Copy)]
+#[derive(Clone, Copy, Debug, PartialEq, Eq)]
 pub enum Refusal {
     NoVariable,
     NotRoot,
@@ -55,81 +57,25 @@ pub enum Refusal {
     NoReason,
 }
 
-// ---- what the calls that change a store answer
-
-// Creating a variable.
-#[derive(Clone, Copy)]
-pub enum GrowAnswer {
-    Grown(DomainId),
-    Refused(Refusal),
-}
-
-// A post.
-#[derive(Clone, Copy)]
-pub enum PostAnswer {
-    Changed,
-    Unchanged,
-    Refused(Refusal),
-}
-
-// Opening a checkpoint.
-#[derive(Clone, Copy)]
-pub enum OpenAnswer {
-    Opened(Checkpoint),
-    Refused(Refusal),
-}
-
-// A synchronise: how many pairs it wrote.
-#[derive(Clone, Copy)]
-pub enum SynchroniseAnswer {
-    Unfixed(usize),
-    Refused(Refusal),
-}
-
-// ---- what the questions answer
-
-// A bound.
-#[derive(Clone, Copy)]
-pub enum BoundAnswer {
-    Bound(i32),
-    Refused(Refusal),
-}
-
-// Yes or no.
-#[derive(Clone, Copy)]
-pub enum YesNo {
-    Yes,
-    No,
-    Refused(Refusal),
-}
-
-// The assigned value; `Unassigned` is the rules' none.
-#[derive(Clone, Copy)]
-pub enum ValueAnswer {
-    Assigned(i32),
-    Unassigned,
-    Refused(Refusal),
-}
-
-// The truth of a predicate.
-#[derive(Clone, Copy)]
-pub enum TruthAnswer {
-    True,
-    False,
-    Open,
-    Refused(Refusal),
-}
-
-// How many values are left.
-#[derive(Clone, Copy)]
-pub enum LeftAnswer {
-    Left(u64),
-    Refused(Refusal),
-}
-
-// An entry of the trail.
-#[derive(Clone, Copy)]
-pub enum EntryAnswer {
-    Found(Entry),
-    Refused(Refusal),
+impl Refusal {
+    // The number by which the rules name it.
+    pub fn number(self) -> u8
+        ensures { result ≡ number_of self }
+    {
+        match self {
+            Refusal::NoVariable => 1,
+            Refusal::NotRoot => 2,
+            Refusal::BadDomain => 3,
+            Refusal::TooManyVariables => 4,
+            Refusal::TrailFull => 5,
+            Refusal::StepOverflow => 6,
+            Refusal::Empty => 7,
+            Refusal::TooManyCheckpoints => 8,
+            Refusal::NotLower => 9,
+            Refusal::NoRoom => 10,
+            Refusal::NoSuchEntry => 11,
+            Refusal::NoDecision => 12,
+            Refusal::NoReason => 13,
+        }
+    }
 }
