@@ -14,26 +14,26 @@ ghost use Rattle.backtracking.specs.Traces.{traces_of, variable_before};
 use domains::is_not_equal_predicate;
 use pools::Update;
 use predicates::Checkpoint;
-use stores::{Assignments, Opened, Synchronised, Variable};
-use stories::{Entry, OpenAnswer, Refusal, SynchroniseAnswer};
+use stores::{Assignments, Called, Variable};
+use stories::{Entry, Refusal};
 
 // One checkpoint more: the trail's length is kept, and the new checkpoint is the current one.
-pub fn new_checkpoint(mut store: Assignments) -> Opened
+pub fn new_checkpoint(mut store: Assignments) -> Called<Checkpoint>
     requires { Made store }
     ensures { (result.answer ≡ open_answer store) × (result.store ≡ open_store store) }
 {
     let current = store.checkpoint;
     if Assignments::MAX_CHECKPOINTS <= current {
-        return Opened {
-            answer: OpenAnswer::Refused(Refusal::TooManyCheckpoints),
+        return Called {
+            answer: Err(Refusal::TooManyCheckpoints),
             store,
         };
     }
     let next = current + 1;
     store.delimiters[current] = store.trail.length as u16;
     store.checkpoint = next;
-    Opened {
-        answer: OpenAnswer::Opened(Checkpoint(next as u16)),
+    Called {
+        answer: Ok(Checkpoint(next as u16)),
         store,
     }
 }
@@ -180,22 +180,22 @@ pub fn synchronise(
     checkpoint: Checkpoint,
     variables: &mut [u16],
     lowers: &mut [i32],
-) -> Synchronised
+) -> Called<usize>
     requires { Made store }
     ensures { Outcome store checkpoint.0 variables.old lowers.old result variables.new lowers.new }
 {
     let back = checkpoint.0 as usize;
     let current = store.checkpoint;
     if current <= back {
-        return Synchronised {
-            answer: SynchroniseAnswer::Refused(Refusal::NotLower),
+        return Called {
+            answer: Err(Refusal::NotLower),
             store,
         };
     }
     let mut left = store.trail.length - store.delimiters[back] as usize;
     if shorter(variables.len(), lowers.len()) < left {
-        return Synchronised {
-            answer: SynchroniseAnswer::Refused(Refusal::NoRoom),
+        return Called {
+            answer: Err(Refusal::NoRoom),
             store,
         };
     }
@@ -241,8 +241,8 @@ pub fn synchronise(
     store.delimiters = cut(store.delimiters, back, current);
     store.checkpoint = back;
     store.pruned = count;
-    Synchronised {
-        answer: SynchroniseAnswer::Unfixed(pairs),
+    Called {
+        answer: Ok(pairs),
         store,
     }
 }

@@ -1,5 +1,8 @@
 -- A store answers and shows what the rules come to for the one variable: a post that makes an entry makes of the domain what the rules
 -- make of it, and every other post leaves the store alone; creating is such entries from a dense domain on.
+use Rattle.predicates.specs.declared.DomainId.{DomainId}
+use Rattle.std.specs.Prelude.{Result, Ok}
+use Rattle.stories.specs.declared.Refusal.{Refusal}
 use Prim.Native.Nat.{ℕ, zero, suc, ◌+◌, ◌≤◌, ◌<◌}
 use mathlib.Core.Bool.{Bool, true, false, ◌&&◌, and-true}
 use mathlib.Core.Path.{◌≡◌, refl, sym, ap, ◌∙◌}
@@ -25,8 +28,6 @@ use Rattle.domains.specs.Domain.{is_not_equal, has, member, width, acts, overflo
 use Rattle.domains.proofs.Tests.{picked, both, clash}
 use Rattle.domains.specs.Limits.{first, last}
 use Rattle.domains.proofs.Membership.{left, is_left}
-use Rattle.stories.specs.declared.GrowAnswer.TheVariants.{Grown}
-use Rattle.stories.specs.declared.PostAnswer.{PostAnswer}
 use Rattle.stores.specs.declared.Variable.{Variable}
 use Rattle.stores.specs.declared.Assignments.{Assignments}
 use Rattle.pools.specs.Chain.{chain_of, values_of}
@@ -83,7 +84,7 @@ module _ (s : Assignments) (m : Made s) (x : ℕ) (there : x < s.domains) (p : P
   told = line p (post_answer s (on x p)) (shown (post_store s (on x p) None) x)
 
   -- by the cases of the call
-  told_is : {a : PostAnswer} {t : Assignments} {w : Seen} → (a ≡ post_answer s (on x p)) × (t ≡ post_store s (on x p) None) → shown t x ≡ w → told ≡ line p a w
+  told_is : {a : Result Bool Refusal} {t : Assignments} {w : Seen} → (a ≡ post_answer s (on x p)) × (t ≡ post_store s (on x p) None) → shown t x ≡ w → told ≡ line p a w
   unfolding told
   told_is {a} e f = sym (λ j. line p (e.0 j) (shown (e.1 j) x)) ∙ ap (line p a) f
 
@@ -248,9 +249,9 @@ unfolding shown
 fresh_entries = ap (λ (w : Seen). w.entries) fresh_shown
 
 -- the next variable is number 1, after 2 entries and with count 0
-next_variable : Grown (record { 0 = fresh.domains }) ≡ Grown (record { 0 = 1 })
+next_variable : ◌≡◌ {A = Result DomainId Refusal} (Ok (record { 0 = fresh.domains })) (Ok (record { 0 = 1 }))
 unfolding shown
-next_variable = ap (λ (w : Seen). Grown (record { 0 = w.variables })) fresh_shown
+next_variable = ap (λ (w : Seen). Ok (record { 0 = w.variables })) fresh_shown
 
 next_shown : (after : ℕ → ℕ → ℕ → Seen) {s t : Assignments} → s ≡ t → shown s fresh.domains ≡ after fresh.domains fresh.trail.length fresh.pruned → shown t 1 ≡ after 1 2 0
 unfolding shown
@@ -267,7 +268,7 @@ sound (Start.list (v ∷ vs)) = every is_i32 (v ∷ vs) && leb (length (missing 
 -- what such a creation comes to
 pub record Begins (st : Start) : Type 0 where
   pub made : Made (begun st)
-  pub variable : created st ≡ Grown (record { 0 = looked st })
+  pub variable : created st ≡ Ok (record { 0 = looked st })
   pub shows : shown (begun st) (looked st) ≡ begins st
   pub there : looked st < (begins st).variables
 

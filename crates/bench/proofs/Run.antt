@@ -1,5 +1,6 @@
 -- What a check comes to by the rules, reckoned on one variable's domain and without a store. Tools: the checks say nothing of this.
 -- Assumes nothing.
+use Rattle.std.specs.Prelude.{true, false, Ok, Err}
 use Prim.Native.Nat.{ℕ, suc, ◌+◌, ◌-◌}
 use mathlib.Core.List.{List, [], ◌∷◌, foldl}
 use lib.IntN.{ℤ, pos}
@@ -8,7 +9,6 @@ use Rattle.domains.specs.declared.Bounds.{Bounds}
 use Rattle.domains.specs.Choice.{pick}
 use Rattle.domains.specs.Domain.{Domain, emptied, acts, overflows, moved, pruned_by}
 use Rattle.stories.specs.declared.Refusal.TheVariants.{TrailFull, StepOverflow, Empty}
-use Rattle.stories.specs.declared.PostAnswer.TheVariants.{Changed, Unchanged, Refused}
 use Rattle.stories.specs.Calls.{span_of, missing}
 use Rattle.bench.specs.Seen.{Seen, Start, Post, Line, line}
 
@@ -81,10 +81,10 @@ abbrev pub comes : Seen → Post → Line
 comes w p =
     let d : Domain = w.domain in
     pick (acts p.kind p.value d)
-    (pick (leb 1024 w.entries) (line p (Refused TrailFull) w)
-    (pick (overflows p.kind p.value d) (line p (Refused StepOverflow) w)
-    (line p (pick (emptied (moved p.kind p.value d)) (Refused Empty) Changed) (entered w p))))
-    (line p (pick (emptied d) (Refused Empty) Unchanged) w)
+    (pick (leb 1024 w.entries) (line p (Err TrailFull) w)
+    (pick (overflows p.kind p.value d) (line p (Err StepOverflow) w)
+    (line p (pick (emptied (moved p.kind p.value d)) (Err Empty) (Ok true)) (entered w p))))
+    (line p (pick (emptied d) (Err Empty) (Ok false)) w)
 
 -- posts one after another
 abbrev pub run : Seen → List Post → List Line

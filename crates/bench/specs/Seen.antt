@@ -1,14 +1,13 @@
 -- What a check of RULES.md, "Bench checks", does to a store and looks at: how it begins, its posts, and what is seen after each.
 -- Assumes nothing.
-use Rattle.std.specs.Prelude.{ℕ, List, [], ◌∷◌, ℤ}
+use Rattle.stories.specs.declared.Refusal.{Refusal}
+use Rattle.predicates.specs.declared.DomainId.{DomainId}
+use Rattle.std.specs.Prelude.{ℕ, Bool, List, [], ◌∷◌, ℤ, Result, Ok}
 use Rattle.predicates.specs.declared.Predicate.{Predicate}
 use Rattle.predicates.specs.declared.PredicateType.{PredicateType}
 use Rattle.predicates.specs.declared.Reason.TheVariants.{None}
 use Rattle.domains.specs.declared.Bounds.{Bounds}
 use Rattle.domains.specs.Domain.{Domain}
-use Rattle.stories.specs.declared.GrowAnswer.{GrowAnswer}
-use Rattle.stories.specs.declared.GrowAnswer.TheVariants.{Grown}
-use Rattle.stories.specs.declared.PostAnswer.{PostAnswer}
 use Rattle.stores.specs.declared.Assignments.{Assignments}
 use Rattle.stories.specs.Words.{Told, told_of}
 use Rattle.stores.specs.Store.{variable_of, domain_of}
@@ -57,8 +56,8 @@ looked (Start.dense b) = 1
 looked (Start.list vs) = 1
 
 -- what its creation answered; variable 0 is there from the start
-abbrev pub created : Start → GrowAnswer
-created Start.fresh = Grown (record { 0 = 0 })
+abbrev pub created : Start → Result DomainId Refusal
+created Start.fresh = Ok (record { 0 = 0 })
 created (Start.dense b) = Calls.grow_answer Calls.fresh b
 created (Start.list vs) = Calls.list_answer Calls.fresh vs
 
@@ -87,7 +86,7 @@ pub record Line : Type 0 where
   pub sight : Seen
 
 -- a post with the store's answer
-abbrev pub line : Post → PostAnswer → Seen → Line
+abbrev pub line : Post → Result Bool Refusal → Seen → Line
 line p a w = record { post = p; answer = told_of a; sight = w }
 
 -- posts to variable x one after another, without a reason

@@ -1,10 +1,10 @@
 -- The table of the starred checks (RULES.md, "Bench checks"), and what it means that one holds. Still to come is H, whose question about
 -- a position is to be a further field of a check. Assumes nothing.
+use Rattle.std.specs.Prelude.{Ok}
 use Rattle.std.specs.Prelude.{ℕ, ◌≡◌, List, [], ◌∷◌, map, ℤ, pos}
 use Prim.Native.Char.{Char}
 use Rattle.predicates.specs.declared.PredicateType.TheVariants.{LowerBound, NotEqual, Equal}
 use Rattle.domains.specs.Limits.{first, last}
-use Rattle.stories.specs.declared.GrowAnswer.TheVariants.{Grown}
 use Rattle.stories.specs.Words.{Told}
 use Rattle.stories.specs.Words.Told.{refused}
 use Rattle.bench.specs.Seen.{Seen, Start, fresh, dense, list, Post, changed, unchanged, Line, shown, begun, looked, created, ran}
@@ -24,7 +24,7 @@ posts_of ls = map (λ (l : Line). l.post) ls
 
 -- the calls give the number of the variable that is looked at, and then show and answer what the check says
 pub record Holds (c : Check) : Type 0 where
-  pub variable : created c.start ≡ Grown (record { 0 = looked c.start })
+  pub variable : created c.start ≡ Ok (record { 0 = looked c.start })
   pub sight : shown (begun c.start) (looked c.start) ≡ c.sight
   pub lines : ran (begun c.start) (looked c.start) (posts_of c.lines) ≡ c.lines
 

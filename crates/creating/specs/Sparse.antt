@@ -1,4 +1,5 @@
 -- Creating from a list, as the code does it: the dense variable first, whose refusals are those of the list, and then the walk.
+use Rattle.std.specs.Prelude.{Result, Ok, Err, is_ok}
 use Rattle.std.specs.Prelude.{ℕ, ◌+◌, ◌≤◌, ◌<◌, ◌≡◌, refl, Bool, true, false, List, [], ◌∷◌, ℤ, pos, length, ltb, leb}
 use Rattle.std.proofs.Math.Path.{sym, ap}
 use Rattle.std.proofs.Common.{◌∙◌, get_or-set_same, ltb-true, ltb-false, leb-true, leb-false}
@@ -11,12 +12,10 @@ use Rattle.domains.specs.declared.Bounds.{Bounds}
 use Rattle.domains.specs.Choice.{pick}
 use Rattle.domains.proofs.Tests.{by_cases}
 use Rattle.stories.specs.declared.Refusal.{Refusal}
-use Rattle.stories.specs.declared.GrowAnswer.{GrowAnswer}
-use Rattle.stories.specs.declared.GrowAnswer.TheVariants as Grow
 use Rattle.stores.specs.declared.Variable.{Variable}
 use Rattle.stores.specs.declared.Assignments.{Assignments}
 use Rattle.stores.specs.Store.{no_variable, recorded, allocated, marked}
-use Rattle.stores.specs.Calls.{grow_answer, grow_store, grows, grown, list_answer, list_store, listed}
+use Rattle.stores.specs.Calls.{grow_answer, grow_store, grown, list_answer, list_store, listed}
 use Rattle.stories.specs.Calls.{span_of, missing}
 use Rattle.stores.proofs.Straight.{Straight, tidy}
 use Rattle.stores.proofs.Meaning.{meant}
@@ -32,7 +31,7 @@ pub nothing_alike : (s : Assignments) (vs : List ℤ) → length vs ≡ 0 →
 unfolding grow_answer grow_store list_answer list_store
 nothing_alike s [] h = (refl, kept (ltb 0 s.checkpoint))
   where
-    kept : (t : Bool) → pick (grows (pick t (Grow.Refused Refusal.NotRoot) (Grow.Refused Refusal.BadDomain))) (grown s (between (pos 1) (pos 0))) s ≡ pick (grows (pick t (Grow.Refused Refusal.NotRoot) (Grow.Refused Refusal.BadDomain))) (listed s []) s
+    kept : (t : Bool) → pick (is_ok {T = DomainId} (pick t (Err Refusal.NotRoot) (Err Refusal.BadDomain))) (grown s (between (pos 1) (pos 0))) s ≡ pick (is_ok {T = DomainId} (pick t (Err Refusal.NotRoot) (Err Refusal.BadDomain))) (listed s []) s
     kept true = refl
     kept false = refl
 nothing_alike s (v ∷ vs) h = absurd (omega arith)
@@ -61,11 +60,11 @@ module _ (s : Assignments) (vs : List ℤ) (spanned : Spanned vs) where
       (λ f. by_cases (ltb 1024 (s.trail.length + 2)) (λ g. full (ltb-false _ _ e) (leb-false _ _ f) (ltb-true _ _ g))
       (λ g. taken (ltb-false _ _ e) (leb-false _ _ f) (ltb-false _ _ g))))
 
-  never : {A : Type 0} {r : Refusal} {x : DomainId} → grow_answer s span ≡ Grow.Refused r → grow_answer s span ≡ Grow.Grown x → A
+  never : {A : Type 0} {r : Refusal} {x : DomainId} → grow_answer s span ≡ Err r → grow_answer s span ≡ Ok x → A
   never p q = let z : ◌≡◌ {A = ℕ} 0 1 = cc in absurd (omega arith)
 
   -- a refused grow is refused as the list is
-  pub refused_alike : (r : Refusal) → grow_answer s (span_of vs) ≡ Grow.Refused r → (grow_answer s (span_of vs) ≡ list_answer s vs) × (grow_store s (span_of vs) ≡ list_store s vs)
+  pub refused_alike : (r : Refusal) → grow_answer s (span_of vs) ≡ Err r → (grow_answer s (span_of vs) ≡ list_answer s vs) × (grow_store s (span_of vs) ≡ list_store s vs)
   unfolding span
   refused_alike r e =
       cases ((grow_answer s span ≡ list_answer s vs) × (grow_store s span ≡ list_store s vs))
@@ -74,11 +73,11 @@ module _ (s : Assignments) (vs : List ℤ) (spanned : Spanned vs) where
       (λ root few full. alike (grow_full s span root good few full) (list_full s vs root spanned.some few (omega arith)))
       (λ root few room. never e (sym (grow_taken s span root good few room).0))
     where
-      alike : {o : GrowAnswer} → (o ≡ grow_answer s span) × (s ≡ grow_store s span) → (o ≡ list_answer s vs) × (s ≡ list_store s vs) → (grow_answer s span ≡ list_answer s vs) × (grow_store s span ≡ list_store s vs)
+      alike : {o : Result DomainId Refusal} → (o ≡ grow_answer s span) × (s ≡ grow_store s span) → (o ≡ list_answer s vs) × (s ≡ list_store s vs) → (grow_answer s span ≡ list_answer s vs) × (grow_store s span ≡ list_store s vs)
       alike p q = (sym p.0 ∙ q.0, sym p.1 ∙ q.1)
 
   -- the variable x was made, and g is the store with it
-  module _ (x : DomainId) (g : Assignments) (made : grow_answer s (span_of vs) ≡ Grow.Grown x) (is : g ≡ grow_store s (span_of vs)) where
+  module _ (x : DomainId) (g : Assignments) (made : grow_answer s (span_of vs) ≡ Ok x) (is : g ≡ grow_store s (span_of vs)) where
     tells : Grows s span x
     unfolding span
     tells =
@@ -121,7 +120,7 @@ module _ (s : Assignments) (vs : List ℤ) (spanned : Spanned vs) where
         })
 
     -- where it gives up, the list is refused
-    pub full_alike : 1024 < g.trail.length + length (missing vs) → (Grow.Refused Refusal.TrailFull ≡ list_answer s vs) × (s ≡ list_store s vs)
+    pub full_alike : 1024 < g.trail.length + length (missing vs) → (Err Refusal.TrailFull ≡ list_answer s vs) × (s ≡ list_store s vs)
     full_alike h = list_full s vs tells.root spanned.some tells.few (omega (arith, long))
 
     -- where it comes to the end, the list is taken, once the mark is set
@@ -129,8 +128,8 @@ module _ (s : Assignments) (vs : List ℤ) (spanned : Spanned vs) where
       pub mark_there : (x.0 < 256) × (0 < r.trail.length) × (r.trail.length < 1025)
       mark_there = (omega (arith, number, tells.few), omega (arith, done.long, long), omega (arith, done.short))
 
-      pub taken_alike : (Grow.Grown x ≡ list_answer s vs) × (marked r x.0 ≡ list_store s vs)
+      pub taken_alike : (Ok x ≡ list_answer s vs) × (marked r x.0 ≡ list_store s vs)
       unfolding listed span
       taken_alike =
           let taken = list_taken s vs tells.root spanned.some tells.few (omega (arith, done.long, done.short, long)) in
-          (ap Grow.Grown tells.number ∙ taken.0, rw (done.same, number, store) taken.1)
+          (ap Ok tells.number ∙ taken.0, rw (done.same, number, store) taken.1)

@@ -1,7 +1,7 @@
 // The calls that create a variable: from two bounds, and from a list of values. Relies on stores and all below it.
 #![tactic(auto)]
 
-ghost use Rattle.std.specs.Prelude.{◌≡◌, true, ◌+◌, ◌<◌, length, ◌≤ℤ◌};
+ghost use Rattle.std.specs.Prelude.{◌≡◌, true, ◌+◌, ◌<◌, length, ◌≤ℤ◌, Err};
 ghost use Rattle.std.specs.Int.Signed.{lt_z};
 ghost use Rattle.predicates.specs.declared.Reason.TheVariants.{None};
 ghost use Rattle.domains.specs.Choice.{pick};
@@ -17,18 +17,18 @@ ghost use Rattle.creating.specs.Walks.{Removes, Walk, Without};
 use domains::Bounds;
 use pools::Update;
 use predicates::{DomainId, Predicate, Reason, TrailPosition};
-use stores::{Assignments, Grew, Variable};
-use stories::{Entry, GrowAnswer, Refusal};
+use stores::{Assignments, Called, Variable};
+use stories::{Entry, Refusal};
 
 // How many values one pass over a list tells of.
 const WINDOW: usize = 8192;
 
 // What a refused call gives back: the store as it was.
-fn refused(store: Assignments, refusal: Refusal) -> Grew
-    ensures { result ≡ record { answer = GrowAnswer.Refused refusal; store = store } }
+fn refused(store: Assignments, refusal: Refusal) -> Called<DomainId>
+    ensures { result ≡ record { answer = Err refusal; store = store } }
 {
-    Grew {
-        answer: GrowAnswer::Refused(refusal),
+    Called {
+        answer: Err(refusal),
         store,
     }
 }
@@ -45,7 +45,7 @@ fn unexplained(predicate: Predicate, old: Bounds) -> Entry
 }
 
 // A variable with every value from `lower` to `upper`.
-pub fn grow(mut store: Assignments, lower: i32, upper: i32) -> Grew
+pub fn grow(mut store: Assignments, lower: i32, upper: i32) -> Called<DomainId>
     requires { Made store }
     ensures { (result.answer ≡ grow_answer store (between lower upper)) × (result.store ≡ grow_store store (between lower upper)) }
 {
@@ -92,8 +92,8 @@ pub fn grow(mut store: Assignments, lower: i32, upper: i32) -> Grew
     store.lower = lowers;
     store.upper = uppers;
     store.domains = domains + 1;
-    Grew {
-        answer: GrowAnswer::Grown(id),
+    Called {
+        answer: Ok(id),
         store,
     }
 }
@@ -248,7 +248,7 @@ fn with_mark(mut store: Assignments, id: DomainId) -> Assignments
 }
 
 // A variable with the listed values, in any order and as often as they come. An empty list is refused as bounds without a value are.
-pub fn create_new_integer_variable_sparse(store: Assignments, values: &[i32]) -> Grew
+pub fn create_new_integer_variable_sparse(store: Assignments, values: &[i32]) -> Called<DomainId>
     requires { Made store }
     ensures { (result.answer ≡ list_answer store values.now) × (result.store ≡ list_store store values.now) }
 {
@@ -258,7 +258,7 @@ pub fn create_new_integer_variable_sparse(store: Assignments, values: &[i32]) ->
     let span = span_of(values);
     let grew = grow(store, span.lower, span.upper);
     let answer = grew.answer;
-    let GrowAnswer::Grown(id) = answer else {
+    let Ok(id) = answer else {
         return grew;
     };
     let dense = grew.store;
@@ -267,7 +267,7 @@ pub fn create_new_integer_variable_sparse(store: Assignments, values: &[i32]) ->
         return refused(store, Refusal::TrailFull);
     }
     let sparse = with_mark(removed.store, id);
-    Grew {
+    Called {
         answer,
         store: sparse,
     }

@@ -1,19 +1,22 @@
 -- What a decision tells of the store that it was read from: `decision` tests in the order of `post_grounds`, so each of its cases is one
 -- case of a post. For `post_predicate`, and for a caller that keeps the store. Assumes nothing.
+use Rattle.std.specs.Prelude.{Option, Some, None, Result, Ok, Err}
 use Prim.Native.Nat.{◌<◌}
-use mathlib.Core.Bool.{true, false, not}
+use mathlib.Core.Bool.{Bool, true, false, not}
 use mathlib.Core.Path.{◌≡◌, refl, sym, ap, subst}
 use lib.Dec.{leb}
 use borrow.Author.Tests.{leb-true, leb-false, not-true, not-false}
 use Rattle.predicates.specs.declared.Predicate.{Predicate}
 use Rattle.predicates.specs.declared.Reason.{Reason}
 use Rattle.domains.specs.declared.Bounds.{Bounds}
-use Rattle.domains.specs.Domain.{overflows}
+use Rattle.domains.specs.Choice.{pick}
+use Rattle.domains.specs.Domain.{overflows, emptied}
 use Rattle.domains.proofs.Tests.{by_cases, picked}
 use Rattle.rules.specs.Sound.{domain_in, Sound}
 use Rattle.stores.specs.declared.Variable.{Variable}
 use Rattle.stores.specs.declared.Assignments.{Assignments}
-use Rattle.stories.specs.declared.PostAnswer.{PostAnswer}
+use Rattle.stories.specs.declared.Refusal.{Refusal}
+use Rattle.stories.specs.declared.Refusal.TheVariants.{Empty}
 use Rattle.stores.specs.Store.{variable_of, domain_of}
 use Rattle.stores.specs.Calls.{domain_before, bounds_after, does, post_answer, post_store}
 use Rattle.stores.proofs.Cases.{post_absent, post_idle, post_full, post_overflows}
@@ -21,8 +24,6 @@ use Rattle.stores.specs.Made.{Made}
 use Rattle.stores.proofs.History.{straight}
 use Rattle.stores.proofs.Straight.{tidy}
 use Rattle.stores.proofs.Steps.{tight_of, fits_of}
-use Rattle.posting.specs.declared.Decision.{Decision}
-use Rattle.posting.specs.declared.Decision.TheVariants.{Stays, Moves}
 use Rattle.posting.specs.Decision.{decision}
 
 -- a post that is to be recorded: there is the variable, something is to be done, there is room, nothing overflows, and where the bounds go
@@ -43,16 +44,25 @@ module _ (s : Assignments) (q : Made s) (p : Predicate) (w : Variable) (own : p.
       (record { tight = tight_of s (straight q) p.domain.0 there; fits = fits_of s (straight q) p.domain.0 there })
 
   -- what each decision tells
-  abbrev Tells : Decision → Type 0
-  Tells (Stays a) = (r : Reason) → (a ≡ post_answer s p) × (s ≡ post_store s p r)
-  Tells (Moves to) = Recordable s p to
+  abbrev Tells : Result (Option Bounds) Refusal → Type 0
+  Tells (Err e) = (r : Reason) → (Err e ≡ post_answer s p) × (s ≡ post_store s p r)
+  Tells (Ok None) = (r : Reason) → (Ok false ≡ post_answer s p) × (s ≡ post_store s p r)
+  Tells (Ok (Some to)) = Recordable s p to
+
+  -- a post that does nothing tells the same of both answers
+  idles : ((r : Reason) → (pick (emptied (domain_before s p)) (Err Empty) (Ok false) ≡ post_answer s p) × (s ≡ post_store s p r)) → Tells (pick (emptied (domain_before s p)) (Err Empty) (Ok None))
+  idles told = go (emptied (domain_before s p)) told
+    where
+      go : (b : Bool) → ((r : Reason) → (pick b (Err Empty) (Ok false) ≡ post_answer s p) × (s ≡ post_store s p r)) → Tells (pick b (Err Empty) (Ok None))
+      go true h = h
+      go false h = h
 
   of_own : Tells (decision (variable_of s p.domain.0) s.domains s.holes s.trail.length p)
   unfolding decision domain_of
   of_own =
       picked Tells (leb s.domains p.domain.0) (λ absent r. post_absent s p r (leb-true _ _ absent))
       (λ some. let there = leb-false s.domains p.domain.0 some in
-      picked Tells (not (does s p)) (λ idle r. post_idle s p r there (not-true (does s p) idle) (tidy (straight q)).entries)
+      picked Tells (not (does s p)) (λ idle. idles (λ r. post_idle s p r there (not-true (does s p) idle) (tidy (straight q)).entries))
       (λ acts. let acting = not-false (does s p) acts in
       picked Tells (leb 1024 s.trail.length) (λ full r. post_full s p r there acting (leb-true _ _ full))
       (λ free. let room = leb-false 1024 s.trail.length free in
@@ -69,8 +79,11 @@ module _ (s : Assignments) (q : Made s) (p : Predicate) (w : Variable) (own : p.
   tells : Tells (decision w s.domains s.holes s.trail.length p)
   tells = subst Tells reads_own of_own
 
-  pub stays_tell : (r : Reason) (a : PostAnswer) → decision w s.domains s.holes s.trail.length p ≡ Stays a → (a ≡ post_answer s p) × (s ≡ post_store s p r)
-  stays_tell r a e = subst Tells e tells r
+  pub refused_tells : (r : Reason) (e : Refusal) → decision w s.domains s.holes s.trail.length p ≡ Err e → (Err e ≡ post_answer s p) × (s ≡ post_store s p r)
+  refused_tells r e is = subst Tells is tells r
 
-  pub moves_tell : (to : Bounds) → decision w s.domains s.holes s.trail.length p ≡ Moves to → Recordable s p to
-  moves_tell to e = subst Tells e tells
+  pub idle_tells : (r : Reason) → decision w s.domains s.holes s.trail.length p ≡ Ok None → (Ok false ≡ post_answer s p) × (s ≡ post_store s p r)
+  idle_tells r is = subst Tells is tells r
+
+  pub moves_tell : (to : Bounds) → decision w s.domains s.holes s.trail.length p ≡ Ok (Some to) → Recordable s p to
+  moves_tell to is = subst Tells is tells

@@ -5,53 +5,41 @@ ghost use Rattle.std.specs.Prelude.{◌≡◌, ◌<◌};
 ghost use Rattle.rules.specs.Sound.{domain_in, Sound};
 ghost use Rattle.stores.specs.Calls.{post_answer, post_store};
 ghost use Rattle.stores.specs.Made.{Made};
-ghost use Rattle.posting.specs.Answers.{idle_answer, overflow_answer, taken_answer};
-ghost use Rattle.posting.specs.Decision.{decision};
+ghost use Rattle.posting.specs.Decision.{decision, unless_emptied, if_room};
 
 use domains::{Bounds, Step, is_not_equal_predicate, pruned};
 use pools::{Pool, Update};
 use predicates::{Predicate, PredicateType, Reason, TrailPosition};
-use stores::{Assignments, Posted, Variable};
-use stories::{Entry, PostAnswer, Refusal};
+use stores::{Assignments, Called, Variable};
+use stories::{Entry, Refusal};
 
-// What a post comes to: an answer that leaves the store as it is, or bounds that are to be recorded.
-#[derive(Clone, Copy)]
-pub enum Decision {
-    Stays(PostAnswer),
-    Moves(Bounds),
-}
-
-// What a post that does nothing answers.
-fn idle(bounds: Bounds) -> PostAnswer
-    ensures { result ≡ idle_answer bounds }
+// An answer, or 7 where the bounds leave no value.
+fn unless_emptied<T: Copy>(bounds: Bounds, answer: T) -> Result<T, Refusal>
+    ensures { result ≡ unless_emptied bounds answer }
 {
     if bounds.upper < bounds.lower {
-        return PostAnswer::Refused(Refusal::Empty);
+        Err(Refusal::Empty)
+    } else {
+        Ok(answer)
     }
-    PostAnswer::Unchanged
 }
 
-// What a post that is recorded answers.
-fn taken(bounds: Bounds) -> PostAnswer
-    ensures { result ≡ taken_answer bounds }
-{
-    if bounds.upper < bounds.lower {
-        return PostAnswer::Refused(Refusal::Empty);
-    }
-    PostAnswer::Changed
-}
-
-// What the removal of the first or the last i32 as the only value left answers: 5 comes before 6.
-fn overflow(entries: usize) -> PostAnswer
-    ensures { result ≡ overflow_answer entries }
+// The answer of a post that needs an entry, or 5 where the trail is full: 5 comes before 6.
+fn if_room(
+    entries: usize,
+    answer: Result<Option<Bounds>, Refusal>,
+) -> Result<Option<Bounds>, Refusal>
+    ensures { result ≡ if_room entries answer }
 {
     if Assignments::MAX_ENTRIES <= entries {
-        return PostAnswer::Refused(Refusal::TrailFull);
+        Err(Refusal::TrailFull)
+    } else {
+        answer
     }
-    PostAnswer::Refused(Refusal::StepOverflow)
 }
 
-// Decided on what a post reads of the store, the record of its variable among it, so that a host that keeps a store need
+// What a post comes to: a refusal, nothing, or bounds that are to be recorded.
+// It is decided on what a post reads of the store, the record of its variable among it, so that a host that keeps a store need
 // not hand it over for a post that leaves it as it is. Where there is no such variable, any record will do.
 pub fn decide(
     variable: Variable,
@@ -59,31 +47,26 @@ pub fn decide(
     holes: Pool,
     entries: usize,
     predicate: Predicate,
-) -> Decision
+) -> Result<Option<Bounds>, Refusal>
     requires { predicate.domain.0 < domains → Sound (domain_in holes variable.holes variable.bounds) }
     ensures { result ≡ decision variable domains holes entries predicate }
 {
     if domains <= predicate.domain.0 as usize {
-        return Decision::Stays(PostAnswer::Refused(Refusal::NoVariable));
+        return Err(Refusal::NoVariable);
     }
     let bounds = variable.bounds;
     let kind = predicate.kind;
     match rules::step(holes, variable.holes, bounds, kind, predicate.value) {
-        Step::Nothing => Decision::Stays(idle(bounds)),
-        Step::Overflows => Decision::Stays(overflow(entries)),
-        Step::Moves(to) => {
-            if Assignments::MAX_ENTRIES <= entries {
-                return Decision::Stays(PostAnswer::Refused(Refusal::TrailFull));
-            }
-            Decision::Moves(to)
-        }
+        Step::Nothing => unless_emptied(bounds, None),
+        Step::Overflows => if_room(entries, Err(Refusal::StepOverflow)),
+        Step::Moves(to) => if_room(entries, Ok(Some(to))),
     }
 }
 
 // Makes the predicate part of the store. What it comes to is decided on small values; then one entry is recorded, with
 // an update for each bound that moves and a hole for a removed value. Each arm returns, as an arm's value would be one
 // more copy of the store.
-pub fn post_predicate(mut store: Assignments, predicate: Predicate, reason: Reason) -> Posted
+pub fn post_predicate(mut store: Assignments, predicate: Predicate, reason: Reason) -> Called<bool>
     requires { Made store }
     ensures { (result.answer ≡ post_answer store predicate) × (result.store ≡ post_store store predicate reason) }
 {
@@ -91,19 +74,28 @@ pub fn post_predicate(mut store: Assignments, predicate: Predicate, reason: Reas
     let domains = store.domains;
     // `decide` tests this too, but is handed the record
     if domains <= x {
-        return Posted {
+        return Called {
             store,
-            answer: PostAnswer::Refused(Refusal::NoVariable),
+            answer: Err(Refusal::NoVariable),
         };
     }
     let was = store.variables[x];
     let holes = store.holes;
     let at = store.trail.length;
     match decide(was, domains, holes, at, predicate) {
-        Decision::Stays(answer) => {
-            return Posted { store, answer };
+        Err(refusal) => {
+            return Called {
+                store,
+                answer: Err(refusal),
+            };
         }
-        Decision::Moves(to) => {
+        Ok(None) => {
+            return Called {
+                store,
+                answer: Ok(false),
+            };
+        }
+        Ok(Some(to)) => {
             let from = was.bounds;
             let kind = predicate.kind;
             let mut trail = store.trail;
@@ -148,8 +140,8 @@ pub fn post_predicate(mut store: Assignments, predicate: Predicate, reason: Reas
             }
             store.variables[x] = now;
             store.pruned = store.pruned + pruned(kind, from, to);
-            let answer = taken(to);
-            return Posted { store, answer };
+            let answer = unless_emptied(to, true);
+            return Called { store, answer };
         }
     }
 }

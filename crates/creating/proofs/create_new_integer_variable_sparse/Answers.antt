@@ -58,22 +58,22 @@ without_missing-removed-requires c =
     let span = c.span_of-span.ensures in (
       span,
       rw (ap (λ (b : Bounds). b.lower) span)
-          (walk_start (store g) (values g) (some g) _ _ (sym (answer g) ∙ c.in-Grown.is) (grown g) (straight c.requires)),
+          (walk_start (store g) (values g) (some g) _ _ (sym (answer g) ∙ c.in-Ok.is) (grown g) (straight c.requires)),
     )
 
 pub returns-then-removed : goal.returns-then-removed
 returns-then-removed c =
     let g = (goal.at.returns-then-removed c).After-grow-grew in
     rw c.refused.ensures
-    (full_alike (store g) (values g) (some g) _ _ (sym (answer g) ∙ c.in-Grown.is) (grown g) (c.without_missing-removed.ensures.none c.if-removed.true))
+    (full_alike (store g) (values g) (some g) _ _ (sym (answer g) ∙ c.in-Ok.is) (grown g) (c.without_missing-removed.ensures.none c.if-removed.true))
 
 pub with_mark-sparse-requires : goal.with_mark-sparse-requires
 with_mark-sparse-requires c =
     let g = (goal.at.with_mark-sparse-requires c).After-grow-grew in
-    mark_there (store g) (values g) (some g) _ _ (sym (answer g) ∙ c.in-Grown.is) (grown g) _ (c.without_missing-removed.ensures.all c.if-removed.false)
+    mark_there (store g) (values g) (some g) _ _ (sym (answer g) ∙ c.in-Ok.is) (grown g) _ (c.without_missing-removed.ensures.all c.if-removed.false)
 
 pub returns : goal.returns
 returns c =
     let g = (goal.at.returns c).After-grow-grew in
-    let taken = taken_alike (store g) (values g) (some g) _ _ (sym (answer g) ∙ c.in-Grown.is) (grown g) _ (c.without_missing-removed.ensures.all c.if-removed.false) in
+    let taken = taken_alike (store g) (values g) (some g) _ _ (sym (answer g) ∙ c.in-Ok.is) (grown g) _ (c.without_missing-removed.ensures.all c.if-removed.false) in
     (taken.0, c.with_mark-sparse.ensures ∙ taken.1)

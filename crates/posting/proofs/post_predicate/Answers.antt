@@ -1,5 +1,5 @@
 -- `post_predicate` does what `decide` says, and records what `recorded` says, field by field.
-use Rattle.std.proofs.Common.{rules}
+use Rattle.std.proofs.Common.{rules, Ok}
 use native.Mathlib.Omega.{arith}
 use mathlib.Core.Bool.{true, false}
 use mathlib.Core.Path.{◌≡◌, refl, sym, ◌∙◌, ap}
@@ -16,9 +16,9 @@ use Rattle.stores.specs.declared.Variable.{Variable}
 use Rattle.stores.specs.declared.Assignments.{Assignments}
 use Rattle.stores.specs.Store.{variable_of, domain_of, differs, recorded}
 use Rattle.stores.specs.Calls.{posted}
-use Rattle.posting.specs.Answers.{taken_answer}
+use Rattle.posting.specs.Decision.{unless_emptied}
 use Rattle.posting.proofs.Recording.{has_moved, kept, was, with, linked, lower_moves, upper_moves, removes, lowers, uppers, removed, lower_link, upper_link, hole_link, replaced, relinked, all_recorded}
-use Rattle.posting.proofs.Deciding.{Recordable, reads_sound, stays_tell, moves_tell}
+use Rattle.posting.proofs.Deciding.{Recordable, reads_sound, refused_tells, idle_tells, moves_tell}
 use Rattle.stores.specs.Made.{AreI32}
 use Rattle.stores.proofs.Straight.{Tidy, tidy}
 use Rattle.stores.proofs.Meaning.{meant}
@@ -29,9 +29,9 @@ use Rattle.posting.proofs.post_predicate.Goals as goal
 use Rattle.posting.proofs.post_predicate.Goals.{After-trail-1, Joined-is_not_equal_predicate, then-from-to, else-from-to, then-from-to-2, else-from-to-2, then-is_not_equal_predicate, else-is_not_equal_predicate}
 
 -- what stands where the post moves: what may be recorded, and that the store is in order
-recordable : (c : After-trail-1) → Recordable c.args.store c.args.predicate c.in-Moves.to
+recordable : (c : After-trail-1) → Recordable c.args.store c.args.predicate c.in-Ok-Some.to
 recordable c =
-    moves_tell c.args.store c.requires c.args.predicate (variable_of c.args.store c.args.predicate.domain.0) (λ there. refl) c.in-Moves.to (sym c.decide.ensures ∙ c.in-Moves.is)
+    moves_tell c.args.store c.requires c.args.predicate (variable_of c.args.store c.args.predicate.domain.0) (λ there. refl) c.in-Ok-Some.to (sym c.decide.ensures ∙ c.in-Ok-Some.is ∙ ap Ok c.in-Ok-Some.field-0-is)
 
 order : (c : After-trail-1) → Tidy c.args.store
 order c = tidy (straight c.requires)
@@ -47,7 +47,7 @@ module _ (c : Joined-is_not_equal_predicate) where
   reason = c.args.reason
 
   abbrev aimed : Bounds
-  aimed = c.in-Moves.to
+  aimed = c.in-Ok-Some.to
 
   abbrev bounds : Bounds
   bounds = (variable_of store predicate.domain.0).bounds
@@ -134,9 +134,13 @@ pub decide-requires : goal.decide-requires
 decide-requires c =
     reads_sound c.args.store c.requires c.args.predicate (variable_of c.args.store c.args.predicate.domain.0) (λ there. refl)
 
-pub returns-in-Stays : goal.returns-in-Stays
-returns-in-Stays c =
-    stays_tell c.args.store c.requires c.args.predicate (variable_of c.args.store c.args.predicate.domain.0) (λ there. refl) c.args.reason c.in-Stays.answer (sym c.decide.ensures ∙ c.in-Stays.is)
+pub returns-in-Err : goal.returns-in-Err
+returns-in-Err c =
+    refused_tells c.args.store c.requires c.args.predicate (variable_of c.args.store c.args.predicate.domain.0) (λ there. refl) c.args.reason c.in-Err.refusal (sym c.decide.ensures ∙ c.in-Err.is)
+
+pub returns-in-Ok-None : goal.returns-in-Ok-None
+returns-in-Ok-None c =
+    idle_tells c.args.store c.requires c.args.predicate (variable_of c.args.store c.args.predicate.domain.0) (λ there. refl) c.args.reason (sym c.decide.ensures ∙ c.in-Ok-None.is ∙ ap Ok c.in-Ok-None.field-0-is)
 
 pub offset_bounds-trail-at : goal.offset_bounds-trail-at
 offset_bounds-trail-at c = record { fits = omega (arith, (recordable c).room) }
@@ -190,9 +194,9 @@ overflow_cast-now-then-is_not_equal_predicate c =
     let k = (goal.at.overflow_cast-now-then-is_not_equal_predicate c).After-trail-1 in
     record { fits = omega (arith, (order k).holes.short, (recordable k).room) }
 
-pub bounds-store-x-in-Moves : goal.bounds-store-x-in-Moves
-bounds-store-x-in-Moves c =
-    let k = (goal.at.bounds-store-x-in-Moves c).After-trail-1 in
+pub bounds-store-x-in-Ok-Some : goal.bounds-store-x-in-Ok-Some
+bounds-store-x-in-Ok-Some c =
+    let k = (goal.at.bounds-store-x-in-Ok-Some c).After-trail-1 in
     omega (arith, (recordable k).there, (order k).domains)
 
 pub overflow_add-store : goal.overflow_add-store
@@ -205,16 +209,16 @@ overflow_add-store c =
     let more = pruned_fits (predicate j).kind (bounds j) (aimed j) from.lower from.upper to.lower to.upper in
     record { fits = omega (arith, same, c.pruned.ensures, more, (meant (straight c.requires)).small, (recordable k).room) }
 
-pub returns-in-Moves : goal.returns-in-Moves
+pub returns-in-Ok-Some : goal.returns-in-Ok-Some
 unfolding moved posted domain_of
-returns-in-Moves c =
-    let k = (goal.at.returns-in-Moves c).After-trail-1 in
-    let j = (goal.at.returns-in-Moves c).Joined-is_not_equal_predicate in
+returns-in-Ok-Some c =
+    let k = (goal.at.returns-in-Ok-Some c).After-trail-1 in
+    let j = (goal.at.returns-in-Ok-Some c).Joined-is_not_equal_predicate in
     let o = order k in
     let to = recordable k in
     let e = post_taken (store j) (predicate j) (reason j) to.there to.acting to.room to.fitting in
     let after = after_hole j in (
-      c.taken-answer.ensures ∙ ap taken_answer to.aimed ∙ e.0,
+      c.unless_emptied-answer.ensures ∙ ap (λ (b : Bounds). unless_emptied b true) to.aimed ∙ e.0,
       (λ i. record {
         trail = (after.stored i).trail;
         lower = (after.stored i).lower;
