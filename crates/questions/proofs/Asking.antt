@@ -1,5 +1,6 @@
 -- Why every question is refused or answered as it should be: `find` tells whether there is such a variable, and its record is what the
 -- store keeps of it. Assumes nothing.
+use Rattle.std.specs.Prelude.{Result, Ok, Err}
 use Prim.Native.Nat.{ℕ, ◌≤◌}
 use mathlib.Core.Path.{◌≡◌, refl, sym, ◌∙◌}
 use mathlib.Core.Bool.{Bool, true, false}
@@ -16,8 +17,6 @@ use Rattle.stores.specs.Store.{variable_of, domain_of}
 use Rattle.stores.specs.Positions.{domain_at}
 use Rattle.stores.proofs.Straight.{tidy}
 use Rattle.stores.proofs.History.{straight}
-use Rattle.questions.specs.declared.parts.Found.{Found}
-use Rattle.questions.specs.declared.parts.Found.TheVariants.{Record, Nothing}
 use Rattle.questions.specs.Parts.{found_in, bounds_at, holes_in, holes_at, within}
 use Rattle.questions.specs.Answers.{asked, ask_now, ask_at}
 
@@ -25,40 +24,23 @@ use Rattle.questions.specs.Answers.{asked, ask_now, ask_at}
 pub few : {s : Assignments} → Made s → s.domains ≤ 256
 few made = (tidy (straight made)).domains
 
--- a word made of an answer keeps the refusal
-pub passed : {A B : Type 0} (refused : Refusal → A) (refused_too : Refusal → B) (word : A → B) (s : Assignments) (x : ℕ) (answer : A) →
-    word (refused NoVariable) ≡ refused_too NoVariable → word (asked refused s x answer) ≡ asked refused_too s x (word answer)
-passed refused refused_too word s x answer e = go (leb s.domains x)
-  where
-    go : (b : Bool) → word (pick b (refused NoVariable) answer) ≡ pick b (refused_too NoVariable) (word answer)
-    go true = e
-    go false = refl
-
-module _ {A : Type 0} (refused : Refusal → A) (s : Assignments) (x : ℕ) {found : Found} (is : found ≡ found_in s.variables s.domains x) where
-  -- no record: refused with 1
-  pub refuses : (answer : A) → found ≡ Nothing → refused NoVariable ≡ asked refused s x answer
-  refuses answer e = go (leb s.domains x) (sym e ∙ is)
-    where
-      go : (b : Bool) → Nothing ≡ pick b Nothing (Record (variable_of s x)) → refused NoVariable ≡ pick b (refused NoVariable) answer
-      go true h = refl
-      go false h = clash refl (cc)
-
+module _ {A : Type 0} (s : Assignments) (x : ℕ) {found : Result Variable Refusal} (is : found ≡ found_in s.variables s.domains x) where
   -- a record: it is the variable's, and the question is answered
-  pub answers : {v : Variable} (answer : Variable → A) → found ≡ Record v → answer v ≡ asked refused s x (answer (variable_of s x))
+  pub answers : {v : Variable} (answer : Variable → A) → found ≡ Ok v → Ok (answer v) ≡ asked s x (answer (variable_of s x))
   answers {v} answer e = go (leb s.domains x) (sym e ∙ is)
     where
-      go : (b : Bool) → Record v ≡ pick b Nothing (Record (variable_of s x)) → answer v ≡ pick b (refused NoVariable) (answer (variable_of s x))
+      go : (b : Bool) → Ok v ≡ pick b (Err NoVariable) (Ok (variable_of s x)) → Ok (answer v) ≡ pick b (Err NoVariable) (Ok (answer (variable_of s x)))
       go true h = clash refl (cc)
       go false h = let same : v ≡ variable_of s x = cc in rw same
 
   -- from the domain now
-  pub answers_now : {v : Variable} (answer : Domain → A) → found ≡ Record v →
-      answer (within v.bounds (holes_in s.holes v.holes)) ≡ ask_now refused answer s x
+  pub answers_now : {v : Variable} (answer : Domain → A) → found ≡ Ok v →
+      Ok (answer (within v.bounds (holes_in s.holes v.holes))) ≡ ask_now answer s x
   unfolding domain_of
   answers_now answer e = answers (λ (v : Variable). answer (within v.bounds (holes_in s.holes v.holes))) e
 
   -- from the domain at a position
-  pub answers_at : {v : Variable} (answer : Domain → A) (p : ℕ) → found ≡ Record v →
-      answer (within (bounds_at s.lower s.upper v p) (holes_at s.holes v.holes p)) ≡ ask_at refused answer s x p
+  pub answers_at : {v : Variable} (answer : Domain → A) (p : ℕ) → found ≡ Ok v →
+      Ok (answer (within (bounds_at s.lower s.upper v p) (holes_at s.holes v.holes p))) ≡ ask_at answer s x p
   unfolding domain_at
   answers_at answer p e = answers (λ (v : Variable). answer (within (bounds_at s.lower s.upper v p) (holes_at s.holes v.holes p))) e

@@ -1,5 +1,6 @@
 -- The promises of Promises.antt, kept: each question asks a domain whose values are those that remain and whose bounds are tight, by the
 -- position law of stores; and what a tight domain tells is about its values, by the truth law of domains.
+use Rattle.std.specs.Prelude.{Option, Some, None, Result, Ok}
 use mathlib.Core.Path.{◌≡◌, refl, sym, ap, ◌∙◌}
 use mathlib.Core.Logic.{◌↔◌}
 use mathlib.Core.Bool.{Bool, true, false}
@@ -20,21 +21,26 @@ use Rattle.domains.proofs.TruthLaws.{truth_law, emptied_truth_law}
 use Rattle.stores.specs.Store.{domain_of}
 use Rattle.stores.specs.Positions.{domain_at}
 use Rattle.stores.proofs.Kept as Stores
-use Rattle.stories.specs.declared.TruthAnswer.TheVariants as Told
-use Rattle.stories.specs.Questions.{yes_no, in_words, lowest, highest, contains, is_one, assigned, assigned_value, truth}
-use Rattle.questions.specs.Promises.{remains_at, remains_now, Some, None, Only, All, Said, About, PositionLaw, NowLaw, PastLaw, RefusalLaw}
+use Rattle.stories.specs.declared.Refusal.{Refusal}
+use Rattle.stories.specs.Questions.{in_words, lowest, highest, contains, is_one, assigned_value, truth}
+use Rattle.questions.specs.Promises.{remains_at, remains_now, SomeLeft, NoneLeft, Only, All, Said, About, PositionLaw, NowLaw, PastLaw, RefusalLaw}
 
 pub refusal_law : RefusalLaw
-refusal_law A refused s x answer = (λ h. rw (le-leb _ _ h), λ h. rw (lt-leb _ _ h))
+refusal_law A s x answer = (λ h. rw (le-leb _ _ h), λ h. rw (lt-leb _ _ h))
 
 -- what a domain tells, said
 said : Domain → Said
-said d = record { lower = lowest d; upper = highest d; inside = λ v. contains v d; fixed = assigned d; value = assigned_value d; evaluated = λ k v. truth k v d }
+said d = record { lower = Ok (lowest d); upper = Ok (highest d); inside = λ v. Ok (contains v d); fixed = Ok (is_one d); value = Ok (assigned_value d); evaluated = λ k v. Ok (truth k v d) }
+
+-- a truth, said
+told : Truth → Result (Option Bool) Refusal
+told t = Ok (in_words t)
 
 -- the words of a truth fit what it means: there are three, and open is neither of the others
 spoken :
     {A B : Type 0} (t : Truth) → ((t ≡ holds) ↔ A) → ((t ≡ fails) ↔ B) →
-    ((in_words t ≡ Told.True) ↔ A) × ((in_words t ≡ Told.False) ↔ B) × ((in_words t ≡ Told.Open) ↔ ((A → ⊥) × (B → ⊥)))
+    ((told t ≡ Ok (Some true)) ↔ A) × ((told t ≡ Ok (Some false)) ↔ B) × ((told t ≡ Ok None) ↔ ((A → ⊥) × (B → ⊥)))
+unfolding told
 spoken holds h f =
     ((λ e. h.0 refl, λ a. refl), (λ e. clash refl (cc), λ b. cc (f.1 b)), (λ e. clash refl (cc), λ n. absurd (n.0 (h.0 refl))))
 spoken fails h f =
@@ -45,10 +51,10 @@ spoken open' h f =
 -- a tight domain tells of its values
 module _ (remain : ℤ → Bool) (d : Domain) (t : Tight d) (is : (v : ℤ) → member d v ≡ remain v) where
   -- some remain exactly where lower is at most upper
-  some : Some remain → d.lower ≤ℤ d.upper
+  some : SomeLeft remain → d.lower ≤ℤ d.upper
   some w = let i = left d w.0 (is w.0 ∙ w.1) in omega integers
 
-  none : None remain → emptied d ≡ true
+  none : NoneLeft remain → emptied d ≡ true
   none n = (empty_law d t).1 (λ v. is v ∙ n v)
 
   -- v alone remains exactly where it is both bounds
@@ -62,10 +68,10 @@ module _ (remain : ℤ → Bool) (d : Domain) (t : Tight d) (is : (v : ℤ) → 
       let u = w.1 d.upper (sym (is d.upper) ∙ t.most h) in
       (omega integers, l)
 
-  told : Some remain → (k : PredicateType) (v : ℤ) →
-      ((truth k v d ≡ Told.True) ↔ All remain k v true) × ((truth k v d ≡ Told.False) ↔ All remain k v false)
-      × ((truth k v d ≡ Told.Open) ↔ ((All remain k v true → ⊥) × (All remain k v false → ⊥)))
-  told w k v =
+  evaluated : SomeLeft remain → (k : PredicateType) (v : ℤ) →
+      ((told (truth_of k v d) ≡ Ok (Some true)) ↔ All remain k v true) × ((told (truth_of k v d) ≡ Ok (Some false)) ↔ All remain k v false)
+      × ((told (truth_of k v d) ≡ Ok None) ↔ ((All remain k v true → ⊥) × (All remain k v false → ⊥)))
+  evaluated w k v =
       let h = some w in
       let law = truth_law k v d t (omega integers) in
       spoken (truth_of k v d)
@@ -73,9 +79,9 @@ module _ (remain : ℤ → Bool) (d : Domain) (t : Tight d) (is : (v : ℤ) → 
       (λ e x m. law.1.0 e x (is x ∙ m), λ a. law.1.1 (λ x m. a x (sym (is x) ∙ m)))
 
   about : About remain (said d)
-  unfolding said truth_of
+  unfolding said told truth_of
   about = record {
-    member = λ v. ap yes_no (is v);
+    member = λ v. ap Ok (is v);
     least = λ w. (d.lower, refl, sym (is d.lower) ∙ t.least (some w), λ v m. (left d v (is v ∙ m)).above);
     greatest = λ w. (d.upper, refl, sym (is d.upper) ∙ t.most (some w), λ v m. (left d v (is v ∙ m)).below);
     fixed = (
@@ -86,11 +92,11 @@ module _ (remain : ℤ → Bool) (d : Domain) (t : Tight d) (is : (v : ℤ) → 
       λ e. by_cases (is_one d) (λ o. only v o (cc (rw o at e))) (λ o. clash refl (cc (rw o at e))),
       λ w. let o = one v w in rw (o.0, o.1),
     );
-    holds = λ w k v. (told w k v).0;
-    fails = λ w k v. (told w k v).1;
-    open' = λ w k v. (told w k v).2;
-    none_not = λ n v. ap in_words (emptied_truth_law v d (none n)).0;
-    none_equal = λ n v. ap in_words (emptied_truth_law v d (none n)).1;
+    holds = λ w k v. (evaluated w k v).0;
+    fails = λ w k v. (evaluated w k v).1;
+    open' = λ w k v. (evaluated w k v).2;
+    none_not = λ n v. ap told (emptied_truth_law v d (none n)).0;
+    none_equal = λ n v. ap told (emptied_truth_law v d (none n)).1;
     none_at_least = λ n v l e.
         let h = none n in
         let same : d.lower ≡ l = cc in

@@ -1,5 +1,5 @@
 -- What the inner functions read: a variable's record, a pool, bounds. Assumes nothing.
-use Rattle.std.specs.Prelude.{ℕ, List, ℤ, get_or, leb}
+use Rattle.std.specs.Prelude.{ℕ, List, ℤ, get_or, leb, Result, Ok, Err}
 use Rattle.domains.specs.declared.Bounds.{Bounds}
 use Rattle.domains.specs.Choice.{pick}
 use Rattle.domains.specs.Domain.{Domain}
@@ -8,12 +8,12 @@ use Rattle.pools.specs.Chain.{chain_of, values_of, up_to}
 use Rattle.stores.specs.declared.Variable.{Variable}
 use Rattle.stores.specs.Store.{no_variable}
 use Rattle.stores.specs.Positions.{value_at}
-use Rattle.questions.specs.declared.parts.Found.{Found}
-use Rattle.questions.specs.declared.parts.Found.TheVariants.{Record, Nothing}
+use Rattle.stories.specs.declared.Refusal.{Refusal}
+use Rattle.stories.specs.declared.Refusal.TheVariants.{NoVariable}
 
 -- the record of variable x, if there are more than x variables
-abbrev pub found_in : List Variable → ℕ → ℕ → Found
-found_in variables domains x = pick (leb domains x) Nothing (Record (get_or variables x no_variable))
+abbrev pub found_in : List Variable → ℕ → ℕ → Result Variable Refusal
+found_in variables domains x = pick (leb domains x) (Err NoVariable) (Ok (get_or variables x no_variable))
 
 -- the bounds of a variable at a position, by its histories
 abbrev pub lower_at : Pool → Variable → ℕ → ℤ

@@ -1,15 +1,11 @@
--- `left` counts the values from lower to upper.
+-- `left` counts the values between the bounds of now, whatever the holes.
 use mathlib.Core.Path.{ap, ◌∙◌}
-use Rattle.stories.specs.declared.LeftAnswer.TheVariants.{Left, Refused}
-use Rattle.questions.specs.Parts.{holes_in}
-use Rattle.stories.specs.Questions.{left}
-use Rattle.questions.proofs.Asking.{few, answers_now}
+use Rattle.std.proofs.Common.{[], Ok}
+use Rattle.stories.specs.Questions.{left_of}
+use Rattle.questions.proofs.Asking.{answers_now}
 use Rattle.questions.proofs.left.Goals as goal
 
-pub find-requires : goal.find-requires
-find-requires c = few c.requires
-
 pub returns : goal.returns
+unfolding left_of
 returns c =
-    let holes = holes_in c.args.store.holes c.in-Record.variable.holes in
-    ap Left (c.values_left.ensures holes) ∙ answers_now Refused c.args.store c.args.domain.0 c.find.ensures left c.in-Record.is
+    ap Ok (c.values_left.ensures []) ∙ answers_now c.args.store c.args.domain.0 c.find.ensures left_of c.in_ok-variable.was

@@ -6,19 +6,13 @@ use Rattle.stories.specs.Questions.{left_of}
 use Rattle.questions.proofs.Reading.{read}
 use Rattle.questions.proofs.parts.values_left.Goals as goal
 
-pub returns-then-upper-lower : goal.returns-then-upper-lower
-unfolding left_of
-returns-then-upper-lower c = λ holes.
-    let bounds = c.args.bounds in
-    let test = simp (read bounds.lower (search rules), read bounds.upper (search rules)) at c.if-upper-lower.true in
-    omega integers
-
 pub returns : goal.returns
 unfolding left_of
 returns c = λ holes.
     let bounds = c.args.bounds in
     let lower = read bounds.lower (search rules) in
     let upper = read bounds.upper (search rules) in
-    let test = simp (lower, upper) at c.if-upper-lower.false in
+    let test = simp (lower, upper) at c.if-bounds.false in
     let far = simp (lower, upper) at c.abs_diff.ensures in
-    omega (integers, apart bounds.lower bounds.upper (omega integers))
+    let wide = c.from.ensures in
+    omega (integers, wide, apart bounds.lower bounds.upper (omega integers))
