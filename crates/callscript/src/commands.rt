@@ -1,7 +1,6 @@
 // What a line asks for (docs/CALLS.md). A group of commands has a function of its own, so that a further command is a line in one of them.
 use crate::fields::{Cause, MOST_ROOM, Room, Spelt, read_predicate, read_reason, read_room};
 use crate::questions_asked::{Asked, Question, read_question};
-use lines::{Integer, Natural};
 use predicates::{Predicate, Reason};
 
 // A call, or no line that can be read. The values of a list lie beside the command.
@@ -107,7 +106,7 @@ fn read_look(name: &[u8]) -> Command {
 
 // A command with one field: a number.
 fn read_with_one(name: &[u8], line: &[u8]) -> Command {
-    let Natural::Number(number) = lines::read_natural(lines::field(line, 1)) else {
+    let Some(number) = lines::read_natural(lines::field(line, 1)) else {
         return Command::Bad;
     };
     if lines::is_word(name, b"back") {
@@ -148,10 +147,10 @@ fn read_with_four(name: &[u8], line: &[u8]) -> Command {
 }
 
 fn read_grow(line: &[u8]) -> Command {
-    let Integer::Number(lower) = lines::read_integer(lines::field(line, 1)) else {
+    let Some(lower) = lines::read_integer(lines::field(line, 1)) else {
         return Command::Bad;
     };
-    let Integer::Number(upper) = lines::read_integer(lines::field(line, 2)) else {
+    let Some(upper) = lines::read_integer(lines::field(line, 2)) else {
         return Command::Bad;
     };
     Command::Grow { lower, upper }
@@ -162,7 +161,7 @@ fn read_list(line: &[u8], values: &mut [i32]) -> Command {
     let count = lines::field_count(line);
     let mut at = 1;
     while at < count {
-        let Integer::Number(value) = lines::read_integer(lines::field(line, at)) else {
+        let Some(value) = lines::read_integer(lines::field(line, at)) else {
             return Command::Bad;
         };
         // A line has no room for as many fields as there are places.
@@ -176,7 +175,7 @@ fn read_list(line: &[u8], values: &mut [i32]) -> Command {
 }
 
 fn read_synchronise(line: &[u8]) -> Command {
-    let Natural::Number(checkpoint) = lines::read_natural(lines::field(line, 1)) else {
+    let Some(checkpoint) = lines::read_natural(lines::field(line, 1)) else {
         return Command::Bad;
     };
     let Room::Places(variables) = read_room(lines::field(line, 2)) else {

@@ -1,7 +1,6 @@
 // What fields of a line spell beside bare numbers: rooms, reasons and predicates.
 ghost use Rattle.std.specs.Prelude.{◌<◌};
 
-use lines::{Integer, Natural};
 use predicates::{DomainId, Predicate, PredicateType, Reason};
 
 // The most places that a line can lend; `back` lends as many.
@@ -15,7 +14,7 @@ pub enum Room {
 }
 
 pub fn read_room(field: &[u8]) -> Room {
-    let Natural::Number(number) = lines::read_natural(field) else {
+    let Some(number) = lines::read_natural(field) else {
         return Room::Bad;
     };
     let places = number as usize;
@@ -65,8 +64,8 @@ pub fn read_reason(field: &[u8]) -> Cause {
         return Cause::Reason(Reason::None);
     }
     match lines::read_natural(field) {
-        Natural::Number(number) => Cause::Reason(Reason::Given(number)),
-        Natural::Bad => Cause::Bad,
+        Some(number) => Cause::Reason(Reason::Given(number)),
+        None => Cause::Bad,
     }
 }
 
@@ -74,13 +73,13 @@ pub fn read_reason(field: &[u8]) -> Cause {
 pub fn read_predicate(line: &[u8], first: usize) -> Spelt
     requires { first < 5 }
 {
-    let Natural::Number(number) = lines::read_natural(lines::field(line, first)) else {
+    let Some(number) = lines::read_natural(lines::field(line, first)) else {
         return Spelt::Bad;
     };
     let Operator::Kind(kind) = read_operator(lines::field(line, first + 1)) else {
         return Spelt::Bad;
     };
-    let Integer::Number(value) = lines::read_integer(lines::field(line, first + 2)) else {
+    let Some(value) = lines::read_integer(lines::field(line, first + 2)) else {
         return Spelt::Bad;
     };
     Spelt::Claim(Predicate {

@@ -1,6 +1,5 @@
 // The questions about one variable (docs/CALLS.md, "Questions", and RULES.md's `ask`, `at` and `show`), as lines ask them.
 use crate::fields::{Spelt, read_predicate};
-use lines::{Integer, Natural};
 use predicates::{DomainId, Predicate, TrailPosition};
 
 // A question about a variable now, at its creation, or at a position of the trail.
@@ -59,7 +58,7 @@ pub fn read_question(name: &[u8], line: &[u8], count: usize) -> Asked {
 
 // A question with one field: a variable.
 fn read_of_variable(name: &[u8], line: &[u8]) -> Asked {
-    let Natural::Number(number) = lines::read_natural(lines::field(line, 1)) else {
+    let Some(number) = lines::read_natural(lines::field(line, 1)) else {
         return Asked::Bad;
     };
     let domain = DomainId::new(number);
@@ -89,10 +88,10 @@ fn read_of_variable(name: &[u8], line: &[u8]) -> Asked {
 
 // A question with two fields: a position and a variable.
 fn read_of_variable_at(name: &[u8], line: &[u8]) -> Asked {
-    let Natural::Number(place) = lines::read_natural(lines::field(line, 1)) else {
+    let Some(place) = lines::read_natural(lines::field(line, 1)) else {
         return Asked::Bad;
     };
-    let Natural::Number(number) = lines::read_natural(lines::field(line, 2)) else {
+    let Some(number) = lines::read_natural(lines::field(line, 2)) else {
         return Asked::Bad;
     };
     let position = TrailPosition::new(place);
@@ -113,23 +112,23 @@ fn read_of_variable_at(name: &[u8], line: &[u8]) -> Asked {
 }
 
 fn read_contains(line: &[u8]) -> Asked {
-    let Natural::Number(number) = lines::read_natural(lines::field(line, 1)) else {
+    let Some(number) = lines::read_natural(lines::field(line, 1)) else {
         return Asked::Bad;
     };
-    let Integer::Number(value) = lines::read_integer(lines::field(line, 2)) else {
+    let Some(value) = lines::read_integer(lines::field(line, 2)) else {
         return Asked::Bad;
     };
     Asked::Question(Question::Contains(DomainId::new(number), value))
 }
 
 fn read_contains_at(line: &[u8]) -> Asked {
-    let Natural::Number(place) = lines::read_natural(lines::field(line, 1)) else {
+    let Some(place) = lines::read_natural(lines::field(line, 1)) else {
         return Asked::Bad;
     };
-    let Natural::Number(number) = lines::read_natural(lines::field(line, 2)) else {
+    let Some(number) = lines::read_natural(lines::field(line, 2)) else {
         return Asked::Bad;
     };
-    let Integer::Number(value) = lines::read_integer(lines::field(line, 3)) else {
+    let Some(value) = lines::read_integer(lines::field(line, 3)) else {
         return Asked::Bad;
     };
     let position = TrailPosition::new(place);
@@ -155,7 +154,7 @@ fn read_of_predicate(name: &[u8], line: &[u8]) -> Asked {
 }
 
 fn read_truth_at(line: &[u8]) -> Asked {
-    let Natural::Number(place) = lines::read_natural(lines::field(line, 1)) else {
+    let Some(place) = lines::read_natural(lines::field(line, 1)) else {
         return Asked::Bad;
     };
     let Spelt::Claim(predicate) = read_predicate(line, 2) else {

@@ -8,21 +8,21 @@ use lib.IntN.{ℤ}
 use lib.ListN.{length, take, length-append}
 use lib.Dec.{leb}
 use borrow.Author.Tests.{leb-true}
-use Rattle.lines.specs.declared.numbers.Integer.{Integer}
-use Rattle.lines.specs.declared.numbers.Integer.TheVariants.{Number, Bad}
+use Rattle.std.specs.Prelude.{Option, Some, None}
 use Rattle.lines.specs.Fields.{first_field, later_fields, joined}
 use Rattle.lines.specs.Reading.{read_integer}
 use Rattle.lines.proofs.Cases.{true_or_false}
 use Rattle.lines.proofs.FieldLaws.{joined_fields}
+use Rattle.lines.proofs.NaturalLaws.{no_number}
 use Rattle.commands.specs.declared.command.Command.TheVariants as command
 use Rattle.commands.specs.Values.{value_and, spelt, values_of, Copied}
 use Rattle.commands.specs.Commands.{command_of}
 use Rattle.commands.proofs.ValueLaws.{copied_whole}
 
 -- a text gives one value at most
-one_more : (read : Integer) (values : List ℤ) → length (value_and read values) ≤ suc (length values)
-one_more Bad values = omega arith
-one_more (Number value) values = omega arith
+one_more : (read : Option ℤ) (values : List ℤ) → length (value_and read values) ≤ suc (length values)
+one_more None values = omega arith
+one_more (Some value) values = omega arith
 
 -- a text and others after it, each after a tab, take two bytes for each value of the others
 joined_room : (text : List ℕ) (others : List (List ℕ)) → length text + 2 * length (spelt others) ≤ length (joined text others)
@@ -36,13 +36,13 @@ values_room : (line : List ℕ) → length (first_field line) + 2 * length (valu
 values_room line = rw (joined_fields line) at (joined_room (first_field line) (later_fields line))
 
 -- so 100 places have room for the values of every list line
-list_room : (line : List ℕ) → command_of line ≡ command.List → length (values_of line) ≤ 100
+list_room : (line : List ℕ) → command_of line ≡ Some command.List → length (values_of line) ≤ 100
 list_room line e =
     ⊎_elim
     (λ short. omega (arith, values_room line, leb-true (length line) 200 short))
-    (λ long. let bad : command.Bad ≡ command.List = rw long at e in let clash : ◌≡◌ {A = ℕ} 0 1 = cc in absurd (omega arith))
+    (λ long. absurd (no_number (rw long at e)))
     (true_or_false (leb (length line) 200))
 
 -- and whoever lends that many has the values whole
-pub list_whole : (line : List ℕ) {before after : List ℤ} {next : ℕ} → command_of line ≡ command.List → 100 ≤ length before → Copied (values_of line) 0 before after next → take next after ≡ values_of line
+pub list_whole : (line : List ℕ) {before after : List ℤ} {next : ℕ} → command_of line ≡ Some command.List → 100 ≤ length before → Copied (values_of line) 0 before after next → take next after ≡ values_of line
 list_whole line e places copied = copied_whole copied (omega (arith, list_room line e))

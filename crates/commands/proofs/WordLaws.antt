@@ -4,19 +4,18 @@ use mathlib.Core.Path.{◌≡◌, refl, ap, ◌∙◌}
 use mathlib.Core.Bool.{cond}
 use mathlib.Core.List.{List}
 use mathlib.Core.Logic.{⊎_elim}
-use native.Mathlib.Omega.{arith}
 use Rattle.predicates.specs.declared.PredicateType.{PredicateType}
 use Rattle.predicates.specs.declared.PredicateType.TheVariants.{LowerBound, NotEqual, Equal, UpperBound}
 use Rattle.lines.specs.Fields.{same_bytes}
 use Rattle.lines.proofs.Cases.{true_or_false}
+use Rattle.lines.proofs.NaturalLaws.{no_number}
 use Rattle.lines.proofs.WordLaws.{same_is_equal}
-use Rattle.commands.specs.declared.parts.Kind.{Kind}
-use Rattle.commands.specs.declared.parts.Kind.TheVariants.{Known}
+use Rattle.std.specs.Prelude.{Option, Some}
 use Rattle.commands.specs.Words.{word_of}
 use Rattle.commands.specs.Parts.{read_kind}
 
 -- the word of a kind is read as that kind
-pub kind_of_word : (k : PredicateType) → read_kind (word_of k) ≡ Known k
+pub kind_of_word : (k : PredicateType) → read_kind (word_of k) ≡ Some k
 kind_of_word LowerBound = refl
 kind_of_word NotEqual = refl
 kind_of_word Equal = refl
@@ -24,14 +23,14 @@ kind_of_word UpperBound = refl
 
 module _ (text : List ℕ) (k : PredicateType) where
   -- if the text is no word of j, what is read of it stands further on
-  either : (j : PredicateType) {other : Kind} → (other ≡ Known k → text ≡ word_of k) → cond (same_bytes text (word_of j)) (Known j) other ≡ Known k → text ≡ word_of k
+  either : (j : PredicateType) {other : Option PredicateType} → (other ≡ Some k → text ≡ word_of k) → cond (same_bytes text (word_of j)) (Some j) other ≡ Some k → text ≡ word_of k
   either j later e =
       ⊎_elim
-      (λ same. let found : Known j ≡ Known k = rw same at e in let this : j ≡ k = cc in same_is_equal text (word_of j) same ∙ ap word_of this)
+      (λ same. let found : Some j ≡ Some k = rw same at e in let this : j ≡ k = cc in same_is_equal text (word_of j) same ∙ ap word_of this)
       (λ differs. later (rw differs at e))
       (true_or_false (same_bytes text (word_of j)))
 
   -- what is read as a kind is its word
-  pub word_of_kind : read_kind text ≡ Known k → text ≡ word_of k
+  pub word_of_kind : read_kind text ≡ Some k → text ≡ word_of k
   word_of_kind =
-      either LowerBound (either NotEqual (either Equal (either UpperBound (λ e. let clash : ◌≡◌ {A = ℕ} 0 1 = cc in absurd (omega arith)))))
+      either LowerBound (either NotEqual (either Equal (either UpperBound (λ e. absurd (no_number e)))))

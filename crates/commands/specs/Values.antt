@@ -1,25 +1,18 @@
 -- The values of a list line (RULES.md, D8). Assumes nothing.
-use Rattle.std.specs.Prelude.{ℕ, ◌+◌, ◌-◌, min, Bool, true, false, ◌&&◌, ◌≡◌, List, [], ◌∷◌, length, ℤ}
+use Rattle.std.specs.Prelude.{ℕ, ◌+◌, ◌-◌, min, Bool, true, ◌&&◌, ◌≡◌, List, [], ◌∷◌, length, ℤ, Option, Some, None, is_some}
 use Rattle.std.proofs.lemmas.List.Edits.{sets}
-use Rattle.lines.specs.declared.numbers.Integer.{Integer}
-use Rattle.lines.specs.declared.numbers.Integer.TheVariants.{Number, Bad}
 use Rattle.lines.specs.Fields.{later_fields}
 use Rattle.lines.specs.Reading.{read_integer}
-
--- whether a value was read
-abbrev pub is_value : Integer → Bool
-is_value Bad = false
-is_value (Number value) = true
 
 -- whether each text is a value
 abbrev pub all_values : List (List ℕ) → Bool
 all_values [] = true
-all_values (text ∷ texts) = is_value (read_integer text) && all_values texts
+all_values (text ∷ texts) = is_some (read_integer text) && all_values texts
 
 -- the value that was read and others after it; none of them where it could not be read
-abbrev pub value_and : Integer → List ℤ → List ℤ
-value_and Bad values = []
-value_and (Number value) values = value ∷ values
+abbrev pub value_and : Option ℤ → List ℤ → List ℤ
+value_and None values = []
+value_and (Some value) values = value ∷ values
 
 -- the values that texts spell, up to the first text that is no value
 abbrev pub spelt : List (List ℕ) → List ℤ

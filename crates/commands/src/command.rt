@@ -4,44 +4,22 @@ ghost use Rattle.lines.specs.Fields.{fields};
 ghost use Rattle.commands.specs.Commands.{begins_with, says, var_of, post_of, back_of, ask_of, at_of, show_of, change_of, question_of, command_of};
 
 use crate::list::read_list;
-use crate::parts::{Cause, Claim, read_claim, read_reason};
-use lines::{Integer, Natural, field, field_count, is_word, read_integer, read_natural};
-use predicates::{PredicateType, Reason};
+use crate::parts::{Claim, read_claim, read_reason};
+use lines::{field, field_count, is_word, read_integer, read_natural};
+use predicates::Reason;
 
-// What a line asks for. A `List` has its values in the line (`list_values`); a `Bad` line is none that can be read.
+// What a line asks for. A `List` has its values in the line (`list_values`).
 #[derive(Clone, Copy)]
 pub enum Command {
-    Var {
-        lower: i32,
-        upper: i32,
-    },
+    Var { lower: i32, upper: i32 },
     List,
-    Post {
-        id: u32,
-        kind: PredicateType,
-        value: i32,
-        reason: Reason,
-    },
+    Post { claim: Claim, reason: Reason },
     Open,
-    Back {
-        checkpoint: u32,
-    },
-    Ask {
-        id: u32,
-        kind: PredicateType,
-        value: i32,
-    },
-    At {
-        position: u32,
-        id: u32,
-        kind: PredicateType,
-        value: i32,
-    },
-    Show {
-        id: u32,
-    },
+    Back { checkpoint: u32 },
+    Ask(Claim),
+    At { position: u32, claim: Claim },
+    Show { id: u32 },
     Count,
-    Bad,
 }
 
 impl Command {
@@ -49,18 +27,18 @@ impl Command {
     pub const LONGEST_LINE: usize = 200;
 }
 
-// The line's command.
-pub fn read_command(line: &[u8]) -> Command
+// The line's command; none where it cannot be read.
+pub fn read_command(line: &[u8]) -> Option<Command>
     ensures { result ≡ command_of line.now }
 {
     if Command::LONGEST_LINE < line.len() {
-        return Command::Bad;
+        return None;
     }
     read_change(line)
 }
 
 // A command that changes the store, or else a question.
-fn read_change(line: &[u8]) -> Command
+fn read_change(line: &[u8]) -> Option<Command>
     ensures { result ≡ change_of (fields line.now) }
 {
     if is_command(line, b"var", 3) {
@@ -73,7 +51,7 @@ fn read_change(line: &[u8]) -> Command
         return read_post(line);
     }
     if is_command(line, b"open", 1) {
-        return Command::Open;
+        return Some(Command::Open);
     }
     if is_command(line, b"back", 2) {
         return read_back(line);
@@ -82,7 +60,7 @@ fn read_change(line: &[u8]) -> Command
 }
 
 // A command that asks the store.
-fn read_question(line: &[u8]) -> Command
+fn read_question(line: &[u8]) -> Option<Command>
     ensures { result ≡ question_of (fields line.now) }
 {
     if is_command(line, b"ask", 4) {
@@ -95,9 +73,9 @@ fn read_question(line: &[u8]) -> Command
         return read_show(line);
     }
     if is_command(line, b"count", 1) {
-        return Command::Count;
+        return Some(Command::Count);
     }
-    Command::Bad
+    None
 }
 
 // Whether the line's first field is the word.
@@ -119,80 +97,52 @@ fn is_command(line: &[u8], word: &[u8], count: usize) -> bool
 }
 
 // `var lo hi`
-fn read_var(line: &[u8]) -> Command
+fn read_var(line: &[u8]) -> Option<Command>
     ensures { result ≡ var_of (fields line.now) }
 {
-    let Integer::Number(lower) = read_integer(field(line, 1)) else {
-        return Command::Bad;
-    };
-    let Integer::Number(upper) = read_integer(field(line, 2)) else {
-        return Command::Bad;
-    };
-    Command::Var { lower, upper }
+    let lower = read_integer(field(line, 1))?;
+    let upper = read_integer(field(line, 2))?;
+    Some(Command::Var { lower, upper })
 }
 
 // `post id op value reason`
-fn read_post(line: &[u8]) -> Command
+fn read_post(line: &[u8]) -> Option<Command>
     ensures { result ≡ post_of (fields line.now) }
 {
-    let Claim::Known { id, kind, value } = read_claim(line, 1, 2, 3) else {
-        return Command::Bad;
-    };
-    let Cause::Known(reason) = read_reason(field(line, 4)) else {
-        return Command::Bad;
-    };
-    Command::Post {
-        id,
-        kind,
-        value,
-        reason,
-    }
+    let claim = read_claim(line, 1, 2, 3)?;
+    let reason = read_reason(field(line, 4))?;
+    Some(Command::Post { claim, reason })
 }
 
 // `back k`
-fn read_back(line: &[u8]) -> Command
+fn read_back(line: &[u8]) -> Option<Command>
     ensures { result ≡ back_of (fields line.now) }
 {
-    let Natural::Number(checkpoint) = read_natural(field(line, 1)) else {
-        return Command::Bad;
-    };
-    Command::Back { checkpoint }
+    let checkpoint = read_natural(field(line, 1))?;
+    Some(Command::Back { checkpoint })
 }
 
 // `ask id op value`
-fn read_ask(line: &[u8]) -> Command
+fn read_ask(line: &[u8]) -> Option<Command>
     ensures { result ≡ ask_of (fields line.now) }
 {
-    let Claim::Known { id, kind, value } = read_claim(line, 1, 2, 3) else {
-        return Command::Bad;
-    };
-    Command::Ask { id, kind, value }
+    let claim = read_claim(line, 1, 2, 3)?;
+    Some(Command::Ask(claim))
 }
 
 // `at p id op value`
-fn read_at(line: &[u8]) -> Command
+fn read_at(line: &[u8]) -> Option<Command>
     ensures { result ≡ at_of (fields line.now) }
 {
-    let Natural::Number(position) = read_natural(field(line, 1)) else {
-        return Command::Bad;
-    };
-    let Claim::Known { id, kind, value } = read_claim(line, 2, 3, 4) else {
-        return Command::Bad;
-    };
-    Command::At {
-        position,
-        id,
-        kind,
-        value,
-    }
+    let position = read_natural(field(line, 1))?;
+    let claim = read_claim(line, 2, 3, 4)?;
+    Some(Command::At { position, claim })
 }
 
 // `show id`
-fn read_show(line: &[u8]) -> Command
+fn read_show(line: &[u8]) -> Option<Command>
     ensures { result ≡ show_of (fields line.now) }
 {
-    let Natural::Number(id) = read_natural(field(line, 1)) else {
-        return Command::Bad;
-    };
-    Command::Show { id }
+    let id = read_natural(field(line, 1))?;
+    Some(Command::Show { id })
 }

@@ -8,3 +8,4 @@ mod parts;
 
 pub use command::{Command, read_command};
 pub use list::list_values;
+pub use parts::Claim;

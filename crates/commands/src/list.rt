@@ -5,21 +5,19 @@ ghost use Rattle.commands.specs.Commands.{list_of};
 ghost use Rattle.commands.specs.Values.{values_of, Copied};
 
 use crate::command::Command;
-use lines::{Integer, field, field_count, read_integer};
+use lines::{field, field_count, read_integer};
 
 // A list, where every field after the first is a value.
-pub fn read_list(line: &[u8]) -> Command
+pub fn read_list(line: &[u8]) -> Option<Command>
     ensures { result ≡ list_of (fields line.now) }
 {
     let count = field_count(line);
     let mut i = 1;
     while i < count {
-        let Integer::Number(_) = read_integer(field(line, i)) else {
-            return Command::Bad;
-        };
+        let _value = read_integer(field(line, i))?;
         i += 1;
     }
-    Command::List
+    Some(Command::List)
 }
 
 // Writes the values of the line, as many as there is room for, and answers how many these are. For a list line 100 places are enough.
@@ -32,7 +30,7 @@ pub fn list_values(line: &[u8], out: &mut [i32]) -> usize
         if count <= written + 1 {
             return written;
         }
-        let Integer::Number(value) = read_integer(field(line, written + 1)) else {
+        let Some(value) = read_integer(field(line, written + 1)) else {
             return written;
         };
         out[written] = value;

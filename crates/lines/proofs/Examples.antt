@@ -2,8 +2,7 @@
 use mathlib.Core.Path.{◌≡◌, refl}
 use mathlib.Core.List.{[], ◌∷◌}
 use lib.IntN.{negsuc}
-use Rattle.lines.specs.declared.numbers.Natural.TheVariants as natural
-use Rattle.lines.specs.declared.numbers.Integer.TheVariants as integer
+use Rattle.std.specs.Prelude.{None}
 use Rattle.lines.specs.Fields.{fields}
 use Rattle.lines.specs.Spelling.{spelled_within, spelled, spelled_integer}
 use Rattle.lines.specs.Reading.{read_natural, read_integer}
@@ -17,10 +16,10 @@ largest : spelled 4294967295 ≡ 52 ∷ 50 ∷ 57 ∷ 52 ∷ 57 ∷ 54 ∷ 55 �
 unfolding spelled spelled_within
 largest = refl
 
-too_large : read_natural (52 ∷ 50 ∷ 57 ∷ 52 ∷ 57 ∷ 54 ∷ 55 ∷ 50 ∷ 57 ∷ 54 ∷ []) ≡ natural.Bad
+too_large : read_natural (52 ∷ 50 ∷ 57 ∷ 52 ∷ 57 ∷ 54 ∷ 55 ∷ 50 ∷ 57 ∷ 54 ∷ []) ≡ None
 too_large = refl
 
-leading_zero : read_natural (48 ∷ 49 ∷ []) ≡ natural.Bad
+leading_zero : read_natural (48 ∷ 49 ∷ []) ≡ None
 leading_zero = refl
 
 -- -10 is an i32, and -0 is none
@@ -28,5 +27,5 @@ minus_ten : spelled_integer (negsuc 9) ≡ 45 ∷ 49 ∷ 48 ∷ []
 unfolding spelled spelled_within
 minus_ten = refl
 
-minus_zero : read_integer (45 ∷ 48 ∷ []) ≡ integer.Bad
+minus_zero : read_integer (45 ∷ 48 ∷ []) ≡ None
 minus_zero = refl

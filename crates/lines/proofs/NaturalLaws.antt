@@ -7,7 +7,7 @@ use native.Mathlib.Omega.{arith}
 use lib.ListN.{length, get_or}
 use lib.Dec.{leb, eqb}
 use borrow.Author.Tests.{le-leb, leb-true, ne_eqb, eqb-false, not-true}
-use Rattle.lines.specs.declared.numbers.Natural.TheVariants as natural
+use Rattle.std.specs.Prelude.{Some, None}
 use Rattle.lines.specs.Spelling.{spelled}
 use Rattle.lines.specs.Reading.{is_digit, read_digits, starts_well, read_natural}
 use Rattle.lines.proofs.SpellingLaws.{by_digits, spelled_digit, spelled_more}
@@ -52,7 +52,7 @@ starts_well_lem =
     first n some (c ∷ l) = rw (ne_eqb (48 + n) 48 (λ e. omega arith))
 
 -- a spelling is read as its number
-pub natural_of_spelled : (n : ℕ) → n ≤ 4294967295 → read_natural (spelled n) ≡ natural.Number n
+pub natural_of_spelled : (n : ℕ) → n ≤ 4294967295 → read_natural (spelled n) ≡ Some n
 natural_of_spelled zero fits = rw (spelled_digit {n = 0} (omega arith))
 natural_of_spelled (suc n) fits =
     let well = simp append-nil at (starts_well_lem (suc n) (omega arith) []) in
@@ -63,26 +63,26 @@ pub chosen : {A : Type 0} (t : Bool) (answer other : A) {found : A} → (other �
 chosen true answer other clash e = (refl, e)
 chosen false answer other clash e = absurd (clash e)
 
-pub no_natural : {n : ℕ} → natural.Bad ≡ natural.Number n → ⊥
-no_natural e = let clash : ◌≡◌ {A = ℕ} 0 1 = cc in omega arith
+pub no_number : {A : Type 0} {found : A} → None ≡ Some found → ⊥
+no_number e = let clash : ◌≡◌ {A = ℕ} 0 1 = cc in omega arith
 
 -- what was read past a byte: the byte is a digit
 pub record DigitRead (n b : ℕ) (l : List ℕ) (m : ℕ) : Type 0 where
   pub low : 48 ≤ b
   pub high : b ≤ 57
   pub fits : n * 10 + (b - 48) ≤ 4294967295
-  pub after : read_digits (n * 10 + (b - 48)) l ≡ natural.Number m
+  pub after : read_digits (n * 10 + (b - 48)) l ≡ Some m
 
-pub digit_read : (n b : ℕ) (l : List ℕ) {m : ℕ} → read_digits n (b ∷ l) ≡ natural.Number m → DigitRead n b l m
+pub digit_read : (n b : ℕ) (l : List ℕ) {m : ℕ} → read_digits n (b ∷ l) ≡ Some m → DigitRead n b l m
 digit_read n b l e =
     let next = n * 10 + (b - 48) in
-    let found = chosen (is_digit b && leb next 4294967295) (read_digits next l) natural.Bad no_natural e in
+    let found = chosen (is_digit b && leb next 4294967295) (read_digits next l) None no_number e in
     let tests = (and-eq-true_iff (is_digit b) (leb next 4294967295)).0 found.0 in
     let digit = (and-eq-true_iff (leb 48 b) (leb b 57)).0 tests.0 in
     record { low = leb-true _ _ digit.0; high = leb-true _ _ digit.1; fits = leb-true _ _ tests.1; after = found.1 }
 
 -- what digits make after n is spelt by those of n and then the digits
-more_spelled : (l : List ℕ) (n m : ℕ) → 1 ≤ n → n ≤ 4294967295 → read_digits n l ≡ natural.Number m → (spelled n ++ l ≡ spelled m) × (m ≤ 4294967295)
+more_spelled : (l : List ℕ) (n m : ℕ) → 1 ≤ n → n ≤ 4294967295 → read_digits n l ≡ Some m → (spelled n ++ l ≡ spelled m) × (m ≤ 4294967295)
 more_spelled [] n m some fits e =
     let same : n ≡ m = cc in
     (rw (append-nil, same), omega arith)
@@ -101,10 +101,10 @@ first_digit {b} {m} {l} digit =
     rw (spelled_digit {n = 0 * 10 + (b - 48)} (omega (arith, digit.high)), same)
 
 -- and what is read as a number is its spelling
-pub spelled_of_natural : (l : List ℕ) (m : ℕ) → read_natural l ≡ natural.Number m → (l ≡ spelled m) × (m ≤ 4294967295)
-spelled_of_natural l m e = let found = chosen (starts_well l) (read_digits 0 l) natural.Bad no_natural e in go l found.0 found.1
+pub spelled_of_natural : (l : List ℕ) (m : ℕ) → read_natural l ≡ Some m → (l ≡ spelled m) × (m ≤ 4294967295)
+spelled_of_natural l m e = let found = chosen (starts_well l) (read_digits 0 l) None no_number e in go l found.0 found.1
   where
-    go : (l : List ℕ) → starts_well l ≡ true → read_digits 0 l ≡ natural.Number m → (l ≡ spelled m) × (m ≤ 4294967295)
+    go : (l : List ℕ) → starts_well l ≡ true → read_digits 0 l ≡ Some m → (l ≡ spelled m) × (m ≤ 4294967295)
     go [] well e = absurd (false≢true well)
     go (b ∷ []) well e =
         let digit = digit_read 0 b [] e in
@@ -117,5 +117,5 @@ spelled_of_natural l m e = let found = chosen (starts_well l) (read_digits 0 l) 
         (sym (first_digit digit) ∙ rest.0, rest.1)
 
 -- so what is bad is the spelling of no u32
-pub natural_bad : (l : List ℕ) → read_natural l ≡ natural.Bad → (n : ℕ) → n ≤ 4294967295 → l ≡ spelled n → ⊥
-natural_bad l bad n fits same = no_natural (sym bad ∙ ap read_natural same ∙ natural_of_spelled n fits)
+pub natural_bad : (l : List ℕ) → read_natural l ≡ None → (n : ℕ) → n ≤ 4294967295 → l ≡ spelled n → ⊥
+natural_bad l bad n fits same = no_number (sym bad ∙ ap read_natural same ∙ natural_of_spelled n fits)

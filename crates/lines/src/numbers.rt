@@ -2,106 +2,55 @@
 ghost use Rattle.std.specs.Prelude.{◌≡◌};
 ghost use Rattle.lines.specs.Reading.{read_natural, read_digits, read_integer, from_above, from_below};
 
-// A u32 that was spelt.
-#[derive(Clone, Copy)]
-pub enum Natural {
-    Number(u32),
-    Bad,
-}
-
-// An i32 that was spelt.
-#[derive(Clone, Copy)]
-pub enum Integer {
-    Number(i32),
-    Bad,
-}
-
-// The number whose spelling the field is; bad where it is the spelling of no u32.
-pub fn read_natural(field: &[u8]) -> Natural
+// The number whose spelling the field is; none where it is the spelling of no u32.
+pub fn read_natural(field: &[u8]) -> Option<u32>
     ensures { result ≡ read_natural field.now }
 {
-    if field.len() == 0 {
-        return Natural::Bad;
+    match field {
+        // A zero before another byte is no number's first digit.
+        [] | [b'0', _, ..] => None,
+        _ => digits(field),
     }
-    if field.len() == 1 {
-        return digits(field);
-    }
-    // A zero before another byte is no number's first digit.
-    if field[0] == b'0' {
-        return Natural::Bad;
-    }
-    digits(field)
 }
 
 // The number that the digits make, where all the bytes are digits and it is a u32.
-fn digits(field: &[u8]) -> Natural
+fn digits(field: &[u8]) -> Option<u32>
     ensures { result ≡ read_digits 0 field.now }
 {
-    let mut value: u64 = 0;
-    let mut i = 0;
-    while i < field.len() {
-        let byte = field[i] as u64;
-        if byte < 48 {
-            return Natural::Bad;
+    let mut value = 0u32;
+    for byte in field {
+        if !byte.is_ascii_digit() {
+            return None;
         }
-        if 57 < byte {
-            return Natural::Bad;
-        }
-        value = value * 10 + (byte - 48);
-        // A number grows with every digit, so that one past the largest u32 need be read no further, and no sum wraps.
-        if 4294967295 < value {
-            return Natural::Bad;
-        }
-        i += 1;
+        // A number grows with every digit, so that one past the largest u32 need be read no further.
+        value = value.checked_mul(10)?.checked_add(u32::from(*byte - b'0'))?;
     }
-    Natural::Number(value as u32)
+    Some(value)
 }
 
-// The number whose spelling the field is, with a minus below zero; bad where it is the spelling of no i32.
-pub fn read_integer(field: &[u8]) -> Integer
+// The number whose spelling the field is, with a minus below zero; none where it is the spelling of no i32.
+pub fn read_integer(field: &[u8]) -> Option<i32>
     ensures { result ≡ read_integer field.now }
 {
-    if field.len() == 0 {
-        return Integer::Bad;
-    }
-    if field[0] == b'-' {
-        below(read_natural(&field[1..]))
-    } else {
-        above(read_natural(field))
+    match field {
+        [b'-', magnitude @ ..] => below(read_natural(magnitude)?),
+        _ => above(read_natural(field)?),
     }
 }
 
 // The number itself, where it is an i32.
-fn above(magnitude: Natural) -> Integer
+fn above(magnitude: u32) -> Option<i32>
     ensures { result ≡ from_above magnitude }
 {
-    match magnitude {
-        Natural::Bad => Integer::Bad,
-        Natural::Number(number) => {
-            if number <= 2147483647 {
-                Integer::Number(number as i32)
-            } else {
-                Integer::Bad
-            }
-        }
-    }
+    i32::try_from(magnitude).ok()
 }
 
 // The number with a minus before it, where that is an i32 and not zero, which has no minus.
-fn below(magnitude: Natural) -> Integer
+fn below(magnitude: u32) -> Option<i32>
     ensures { result ≡ from_below magnitude }
 {
-    match magnitude {
-        Natural::Bad => Integer::Bad,
-        Natural::Number(number) => {
-            if number == 0 {
-                Integer::Bad
-            } else if number <= 2147483648 {
-                let wide = number as i64;
-                Integer::Number((0 - wide) as i32)
-            } else {
-                Integer::Bad
-            }
-        }
+    if magnitude == 0 {
+        return None;
     }
+    i32::try_from(-i64::from(magnitude)).ok()
 }

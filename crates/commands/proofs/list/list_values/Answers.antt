@@ -13,11 +13,11 @@ returns-in_default c =
 
 pub loop-written-preserved : goal.loop-written-preserved
 loop-written-preserved c =
-    let value = c.in-Number.value in
+    let value = c.in-Some.value in
     let texts = fields c.args.line.now in
     let fits : mag value < 2147483648 = search rules in
     rw (kept value fits)
-    (length-set c.loop-written.out c.loop-written.written value ∙ c.loop-written.invariant.0, λ after next copied. c.loop-written.invariant.1 after next (rw (texts_at texts (c.loop-written.written + 1) (omega arith), ← c.field.ensures, ← c.read_integer.ensures, c.in-Number.is) (copied_more value (omega arith) copied)))
+    (length-set c.loop-written.out c.loop-written.written value ∙ c.loop-written.invariant.0, λ after next copied. c.loop-written.invariant.1 after next (rw (texts_at texts (c.loop-written.written + 1) (omega arith), ← c.field.ensures, ← c.read_integer.ensures, c.in-Some.is) (copied_more value (omega arith) copied)))
 
 pub returns : goal.returns
 returns c = c.loop-written.invariant.1 _ _ (copied_full _ _ _ c.loop-written-test.false)

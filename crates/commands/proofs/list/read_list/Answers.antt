@@ -7,4 +7,4 @@ use Rattle.commands.proofs.list.read_list.Goals as goal
 pub loop-i-preserved : goal.loop-i-preserved
 loop-i-preserved c =
     let texts = fields c.args.line.now in
-    simp (texts_at texts c.loop-i.i (omega arith), ← c.field.ensures, ← c.read_integer.ensures, c.in-Number.is) at c.loop-i.invariant
+    simp (texts_at texts c.loop-i.i (omega arith), ← c.field.ensures, ← c.read_integer.ensures, c.in_ok-_value.was) at c.loop-i.invariant
