@@ -1,9 +1,11 @@
 -- The parts of a command that are more than a number (RULES.md, D5). Assumes nothing.
 use Rattle.std.specs.Prelude.{ℕ, cond, List, [], get_or, ℤ, Option, Some, None, option_map}
+use Rattle.predicates.specs.declared.Predicate.{Predicate}
 use Rattle.predicates.specs.declared.PredicateType.{PredicateType}
 use Rattle.predicates.specs.declared.PredicateType.TheVariants.{LowerBound, NotEqual, Equal, UpperBound}
 use Rattle.predicates.specs.declared.Reason.{Reason}
 use Rattle.predicates.specs.declared.Reason.TheVariants as reason
+use Rattle.predicates.specs.Counts.{counted}
 use Rattle.lines.specs.Fields.{same_bytes}
 use Rattle.lines.specs.Reading.{read_natural, read_integer}
 use Rattle.commands.specs.declared.parts.Claim.{Claim}
@@ -26,7 +28,11 @@ given_of number = option_map reason.Given number
 abbrev pub read_reason : List ℕ → Option Reason
 read_reason text = cond (same_bytes text dash) (Some reason.None) (given_of (read_natural text))
 
--- the predicate of three parts, if each could be read
+-- the predicate on the variable that a claim names by its number
+abbrev pub predicate_of : Claim → Predicate
+predicate_of claim = record { domain = record { 0 = counted claim.id }; kind = claim.kind; value = claim.value }
+
+-- the claim of three parts, if each could be read
 abbrev pub claim_of : Option ℕ → Option PredicateType → Option ℤ → Option Claim
 claim_of None k v = None
 claim_of (Some id) None v = None
@@ -37,6 +43,6 @@ claim_of (Some id) (Some k) (Some v) = Some (record { id = id; kind = k; value =
 abbrev pub text_at : List (List ℕ) → ℕ → List ℕ
 text_at texts place = get_or texts place []
 
--- the predicate whose fields are at three places
+-- the claim whose fields are at three places
 abbrev pub claim_at : List (List ℕ) → ℕ → ℕ → ℕ → Option Claim
 claim_at texts id kind value = claim_of (read_natural (text_at texts id)) (read_kind (text_at texts kind)) (read_integer (text_at texts value))

@@ -1,10 +1,10 @@
 // The parts of a command that are more than a number: a kind, a reason, and the three fields of a predicate.
 ghost use Rattle.std.specs.Prelude.{◌≡◌};
 ghost use Rattle.lines.specs.Fields.{fields};
-ghost use Rattle.commands.specs.Parts.{read_kind, read_reason, claim_at};
+ghost use Rattle.commands.specs.Parts.{predicate_of, read_kind, read_reason, claim_at};
 
 use lines::{field, is_word, read_integer, read_natural};
-use predicates::{PredicateType, Reason};
+use predicates::{DomainId, Predicate, PredicateType, Reason};
 
 // A predicate as its three fields spell it: the variable still has its whole number.
 #[derive(Clone, Copy)]
@@ -12,6 +12,19 @@ pub struct Claim {
     pub id: u32,
     pub kind: PredicateType,
     pub value: i32,
+}
+
+// The claimed predicate: no store has a variable past the last number of 16 bits, so all numbers past it become that one.
+impl From<Claim> for Predicate {
+    ghost from_gives = { λ claim predicate. predicate ≡ predicate_of claim };
+
+    fn from(claim: Claim) -> Self {
+        Predicate {
+            domain: DomainId::new(claim.id),
+            kind: claim.kind,
+            value: claim.value,
+        }
+    }
 }
 
 // The kind whose word the field is.

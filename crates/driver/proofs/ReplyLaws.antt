@@ -23,6 +23,7 @@ use Rattle.stories.specs.Calls.{written, variables_in, lowers_in}
 use Rattle.stores.specs.Made.{Made}
 use Rattle.stories.specs.declared.TruthAnswer.{TruthAnswer}
 use Rattle.stories.specs.declared.TruthAnswer.TheVariants as Told
+use Rattle.std.specs.Prelude.{Option}
 use Rattle.lines.specs.Spelling.{spelled}
 use Rattle.commands.specs.declared.command.Command.{Command}
 use Rattle.commands.specs.Commands.{command_of}
@@ -93,13 +94,13 @@ pub record Did (s : Assignments) (line : List ℕ) (store : Assignments) (answer
   pub made : Made (line_store s line)
 
 -- what was done for a command was done for each line that says it
-module _ {s : Assignments} {line : List ℕ} {store : Assignments} {answer : Reply} {variables : List ℕ} {lowers : List ℤ} (c : Command) (said : command_of line ≡ c) (stored : store ≡ command_store s (values_of line) c) (made : Made (command_store s (values_of line) c)) where
+module _ {s : Assignments} {line : List ℕ} {store : Assignments} {answer : Reply} {variables : List ℕ} {lowers : List ℤ} (c : Option Command) (said : command_of line ≡ c) (stored : store ≡ command_store s (values_of line) c) (made : Made (command_store s (values_of line) c)) where
   pub did : ((number : ℕ) → reply_text number answer variables lowers ≡ command_text number s (values_of line) c) → Did s line store answer variables lowers
   unfolding line_store line_text
   did text = record {
     stored = stored ∙ ap (command_store s (values_of line)) (sym said);
     text = λ number. text number ∙ ap (command_text number s (values_of line)) (sym said);
-    made = subst (λ (d : Command). Made (command_store s (values_of line) d)) (sym said) made;
+    made = subst (λ (d : Option Command). Made (command_store s (values_of line) d)) (sym said) made;
   }
 
   pub did_plain : {plainly : Reply} → answer ≡ plainly → Plain plainly → ((number : ℕ) → reply_text number plainly [] [] ≡ command_text number s (values_of line) c) → Did s line store answer variables lowers

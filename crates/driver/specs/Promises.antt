@@ -1,12 +1,11 @@
 -- What is promised of the driver beside what each line does: statements alone. The proofs are in Kept.antt. Believe the definitions that
 -- these cite (Lines and Runs; Commands of commands; Text of replies; Calls and Made of stores) and nothing else. Assumes nothing.
-use Rattle.std.specs.Prelude.{ℕ, ◌+◌, ◌<◌, ◌≡◌, List, [], ◌++◌, length}
+use Rattle.std.specs.Prelude.{ℕ, ◌+◌, ◌<◌, ◌≡◌, List, [], ◌++◌, length, None}
 use Rattle.stores.specs.declared.Assignments.{Assignments}
 use Rattle.stories.specs.declared.Refusal.TheVariants.{NoRoom}
 use Rattle.stories.specs.declared.SynchroniseAnswer.TheVariants.{Refused}
 use Rattle.stores.specs.Calls.{synchronise_answer}
 use Rattle.stores.specs.Made.{Made}
-use Rattle.commands.specs.declared.command.Command.TheVariants.{Bad}
 use Rattle.commands.specs.Commands.{command_of}
 use Rattle.replies.specs.declared.answers.Reply.TheVariants as reply
 use Rattle.replies.specs.Text.{reply_text}
@@ -23,11 +22,11 @@ RunLaw =
 
 -- a line that cannot be read is 14, once, and the store stays as it is (D7)
 abbrev pub BadLaw : Type 0
-BadLaw = (number : ℕ) (s : Assignments) (line : List ℕ) → command_of line ≡ Bad → (line_store s line ≡ s) × (line_text number s line ≡ reply_text number (reply.Refused 14) [] [])
+BadLaw = (number : ℕ) (s : Assignments) (line : List ℕ) → command_of line ≡ None → (line_store s line ≡ s) × (line_text number s line ≡ reply_text number (reply.Refused 14) [] [])
 
 -- a line of more than 200 bytes cannot be read (D2)
 abbrev pub LongLaw : Type 0
-LongLaw = (line : List ℕ) → 200 < length line → command_of line ≡ Bad
+LongLaw = (line : List ℕ) → 200 < length line → command_of line ≡ None
 
 -- a `back` is never refused for want of room (D10)
 abbrev pub RoomLaw : Type 0

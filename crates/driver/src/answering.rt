@@ -48,13 +48,13 @@ pub fn answer_lines(mut store: Assignments, first: u64, input: &[u8], out: &mut 
         }
         let line = &input[read..end];
         let reply = match read_command(line) {
-            Command::Var { lower, upper } => {
+            Some(Command::Var { lower, upper }) => {
                 let grew = creating::grow(store, lower, upper);
                 store = grew.store;
                 let answer = grew.answer;
                 replies::of_grow(answer)
             }
-            Command::List => {
+            Some(Command::List) => {
                 let mut values = [0i32; 100];
                 let count = list_values(line, &mut values);
                 let grew = creating::create_new_integer_variable_sparse(store, &values[..count]);
@@ -62,19 +62,9 @@ pub fn answer_lines(mut store: Assignments, first: u64, input: &[u8], out: &mut 
                 let answer = grew.answer;
                 replies::of_grow(answer)
             }
-            Command::Post {
-                id,
-                kind,
-                value,
-                reason,
-            } => {
-                let domain = DomainId::new(id);
-                let predicate = Predicate {
-                    domain,
-                    kind,
-                    value,
-                };
-                let variable = store.variables[place_of(domain)];
+            Some(Command::Post { claim, reason }) => {
+                let predicate = Predicate::from(claim);
+                let variable = store.variables[place_of(predicate.domain)];
                 let holes = store.holes;
                 let entries = store.trail.length;
                 match posting::decide(variable, store.domains, holes, entries, predicate) {
@@ -88,13 +78,13 @@ pub fn answer_lines(mut store: Assignments, first: u64, input: &[u8], out: &mut 
                     }
                 }
             }
-            Command::Open => {
+            Some(Command::Open) => {
                 let opened = backtracking::new_checkpoint(store);
                 store = opened.store;
                 let answer = opened.answer;
                 replies::of_open(answer)
             }
-            Command::Back { checkpoint } => {
+            Some(Command::Back { checkpoint }) => {
                 let gone = backtracking::synchronise(
                     store,
                     Checkpoint::new(checkpoint),
@@ -105,43 +95,28 @@ pub fn answer_lines(mut store: Assignments, first: u64, input: &[u8], out: &mut 
                 let answer = gone.answer;
                 replies::of_synchronise(answer)
             }
-            Command::Ask { id, kind, value } => {
-                let domain = DomainId::new(id);
-                let variable = store.variables[place_of(domain)];
+            Some(Command::Ask(claim)) => {
+                let predicate = Predicate::from(claim);
+                let variable = store.variables[place_of(predicate.domain)];
                 let holes = store.holes;
-                ask(variable, store.domains, holes, domain, kind, value)
+                ask(variable, store.domains, holes, predicate)
             }
-            Command::At {
-                position,
-                id,
-                kind,
-                value,
-            } => {
-                let domain = DomainId::new(id);
-                let variable = store.variables[place_of(domain)];
+            Some(Command::At { position, claim }) => {
+                let predicate = Predicate::from(claim);
+                let variable = store.variables[place_of(predicate.domain)];
                 let at = TrailPosition::new(position);
                 let lower = store.lower;
                 let upper = store.upper;
                 let holes = store.holes;
-                ask_at(
-                    variable,
-                    store.domains,
-                    lower,
-                    upper,
-                    holes,
-                    domain,
-                    at,
-                    kind,
-                    value,
-                )
+                ask_at(variable, store.domains, lower, upper, holes, at, predicate)
             }
-            Command::Show { id } => {
+            Some(Command::Show { id }) => {
                 let domain = DomainId::new(id);
                 let variable = store.variables[place_of(domain)];
                 show(variable, store.domains, domain)
             }
-            Command::Count => Reply::Number(store.pruned),
-            Command::Bad => Reply::Refused(BAD_LINE),
+            Some(Command::Count) => Reply::Number(store.pruned),
+            None => Reply::Refused(BAD_LINE),
         };
         written = put_reply(out, written, number, reply, &variables, &lowers);
         number += 1;

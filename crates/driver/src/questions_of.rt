@@ -4,7 +4,7 @@ ghost use Rattle.pools.specs.declared.Pool.{Pool};
 ghost use Rattle.driver.specs.Parts.{about, truth_in, truth_at, shown_in};
 
 use pools::Pool;
-use predicates::{DomainId, PredicateType, TrailPosition};
+use predicates::{DomainId, Predicate, TrailPosition};
 use replies::Reply;
 use stores::{Assignments, Variable};
 
@@ -24,20 +24,19 @@ pub fn place_of(domain: DomainId) -> usize
 }
 
 // `ask`
-pub fn ask(
-    variable: Variable,
-    domains: usize,
-    holes: Pool,
-    domain: DomainId,
-    kind: PredicateType,
-    value: i32,
-) -> Reply
-    ensures { result ≡ about domains domain.0 (truth_in holes kind value variable) }
+pub fn ask(variable: Variable, domains: usize, holes: Pool, predicate: Predicate) -> Reply
+    ensures { result ≡ about domains predicate.domain.0 (truth_in holes predicate.kind predicate.value variable) }
 {
-    if domains <= domain.0 as usize {
+    if domains <= predicate.domain.0 as usize {
         return Reply::Refused(NO_VARIABLE);
     }
-    replies::of_truth(questions::truth_now(holes, variable.holes, variable.bounds, kind, value))
+    replies::of_truth(questions::truth_now(
+        holes,
+        variable.holes,
+        variable.bounds,
+        predicate.kind,
+        predicate.value,
+    ))
 }
 
 // `at`
@@ -47,18 +46,23 @@ pub fn ask_at(
     lower: Pool,
     upper: Pool,
     holes: Pool,
-    domain: DomainId,
     position: TrailPosition,
-    kind: PredicateType,
-    value: i32,
+    predicate: Predicate,
 ) -> Reply
-    ensures { result ≡ about domains domain.0 (truth_at lower upper holes position.0 kind value variable) }
+    ensures { result ≡ about domains predicate.domain.0 (truth_at lower upper holes position.0 predicate.kind predicate.value variable) }
 {
-    if domains <= domain.0 as usize {
+    if domains <= predicate.domain.0 as usize {
         return Reply::Refused(NO_VARIABLE);
     }
     let bounds = questions::bounds_at(lower, upper, variable, position);
-    replies::of_truth(questions::truth_at(holes, variable.holes, bounds, position, kind, value))
+    replies::of_truth(questions::truth_at(
+        holes,
+        variable.holes,
+        bounds,
+        position,
+        predicate.kind,
+        predicate.value,
+    ))
 }
 
 // `show`

@@ -22,13 +22,15 @@ use Rattle.stores.proofs.History.{straight}
 use Rattle.posting.proofs.Deciding.{reads_sound, stays_tell}
 use Rattle.stories.specs.declared.TruthAnswer.TheVariants.{Refused}
 use Rattle.stories.specs.Questions.{truth}
+use Rattle.std.specs.Prelude.{Some, None}
+use Rattle.commands.specs.Parts.{predicate_of}
 use Rattle.commands.specs.Values.{values_of}
 use Rattle.commands.specs.declared.command.Command.TheVariants as command
 use Rattle.commands.proofs.RoomLaws.{list_whole}
 use Rattle.replies.specs.Replies.{refused_by, grow_reply, post_reply, open_reply, synchronise_reply}
 use Rattle.replies.specs.Text.{reply_text}
 use Rattle.lines.proofs.WritingLaws.{put_length}
-use Rattle.driver.specs.Lines.{command_store, command_reply, command_pairs, command_text, claim, shown}
+use Rattle.driver.specs.Lines.{command_store, command_reply, command_pairs, command_text, shown}
 use Rattle.driver.specs.Parts.{about, truth_in, truth_at, shown_in}
 use Rattle.driver.proofs.ListLaws.{values_fit}
 use Rattle.driver.proofs.PlaceLaws.{placed}
@@ -38,7 +40,7 @@ use borrow.Author.Rules.{rules}
 use Rattle.predicates.specs.declared.DomainId.{DomainId}
 use Rattle.stores.specs.declared.Assignments.{Assignments}
 use Rattle.driver.proofs.answering.answer_lines.Goals as goal
-use Rattle.driver.proofs.answering.answer_lines.Goals.{in-Var, in-List, in-Post+in-Stays, in-Post+in-Moves, in-Open, in-Back, in-Ask, in-At, in-Show, in-Count, in-Bad}
+use Rattle.driver.proofs.answering.answer_lines.Goals.{in-Some-Var, in-Some-List, in-Some-Post+in-Stays, in-Some-Post+in-Moves, in-Some-Open, in-Some-Back, in-Some-Ask, in-Some-At, in-Some-Show, in-Some-Count, in-None}
 
 -- the record that a post reads is that of its variable, if there is one
 own : (s : Assignments) → Made s → (d : DomainId) (place : ℕ) → (d.0 < 256 → place ≡ d.0) → d.0 < s.domains → get_or s.variables place no_variable ≡ variable_of s d.0
@@ -51,7 +53,7 @@ pub decide-requires : goal.decide-requires
 decide-requires c =
     let s = c.loop-out.store in
     let made = c.loop-out.invariant.0.made in
-    reads_sound s made (record { domain = c.new-domain.result; kind = c.in-Post.kind; value = c.in-Post.value }) (get_or s.variables c.place_of.result no_variable) (own s made c.new-domain.result c.place_of.result c.place_of.ensures.1)
+    reads_sound s made c.from-predicate.result (get_or s.variables c.place_of.result no_variable) (own s made c.from-predicate.result.domain c.place_of.result c.place_of.ensures.1)
 
 -- where the arms meet: the line was answered, and the slices for pairs are as long as ever
 pub loop-out-preserved : goal.loop-out-preserved
@@ -67,11 +69,11 @@ loop-out-preserved c =
     let met = c.match-read_command in
     let did_here : Did s line met.store met.reply met.variables met.lowers × (length met.variables ≡ 1024) × (length met.lowers ≡ 1024) =
     elim met.branch [
-      | in-Var w ↦
-          let bounds = w.in-Var in
+      | in-Some-Var w ↦
+          let bounds = w.in-Some-Var in
           let lower : SFits w32 bounds.lower = search rules in
           let upper : SFits w32 bounds.upper = search rules in (
-            did_plain (command.Var bounds.lower bounds.upper) (said ∙ bounds.is)
+            did_plain (Some (command.Var bounds.lower bounds.upper)) (said ∙ bounds.is ∙ ap Some bounds.field-0-is)
                 (w.store-is ∙ w.grow-grew.ensures.1 ∙ (λ i. grow_store s (record { lower = to_z-of_z lower i; upper = to_z-of_z upper i })))
                 (made-grow made _ (record { lower = lower; upper = upper }))
                 (w.reply-is ∙ w.of_grow-reply.ensures ∙ ap grow_reply (w.grow-grew.ensures.0 ∙ (λ i. grow_answer s (record { lower = to_z-of_z lower i; upper = to_z-of_z upper i }))))
@@ -80,49 +82,49 @@ loop-out-preserved c =
             ap length w.variables-is ∙ variables,
             ap length w.lowers-is ∙ lowers,
           )
-      | in-List w ↦
-          let told = said ∙ w.in-List.is in
+      | in-Some-List w ↦
+          let told = said ∙ w.in-Some-List.is ∙ ap Some w.in-Some-List.field-0-is in
           let whole = list_whole line told (omega arith) w.list_values-count.ensures in
           let grew = w.create_new_integer_variable_sparse-grew in (
-            did_plain command.List told
+            did_plain (Some command.List) told
                 (w.store-is ∙ grew.ensures.1 ∙ ap (list_store s) whole)
                 (Made-List made _ (values_fit line))
-                (w.reply-is ∙ w.of_grow-reply-in-List.ensures ∙ ap grow_reply (grew.ensures.0 ∙ ap (list_answer s) whole))
+                (w.reply-is ∙ w.of_grow-reply-in-Some-List.ensures ∙ ap grow_reply (grew.ensures.0 ∙ ap (list_answer s) whole))
                 (grow_plain (list_answer s (values_of line)))
                 (λ number. refl),
             ap length w.variables-is ∙ variables,
             ap length w.lowers-is ∙ lowers,
           )
-      | in-Post+in-Stays w ↦
-          let post = w.in-Post in
-          let value : SFits w32 post.value = search rules in
-          let predicate : (_ ≡ claim post.id post.kind post.value) = λ i. record { domain = record { 0 = w.new-domain.ensures i }; kind = post.kind; value = to_z-of_z value i } in
-          let stays = stays_tell s made _ _ (own s made w.new-domain.result w.place_of.result w.place_of.ensures.1) post.reason w.in-Stays.answer (sym w.decide.ensures ∙ w.in-Stays.is) in (
-            did_plain (command.Post post.id post.kind post.value post.reason) (said ∙ post.is)
+      | in-Some-Post+in-Stays w ↦
+          let post = w.in-Some-Post in
+          let value : SFits w32 post.claim.value = search rules in
+          let predicate = w.from-predicate.ensures in
+          let stays = stays_tell s made _ _ (own s made w.from-predicate.result.domain w.place_of.result w.place_of.ensures.1) post.reason w.in-Stays.answer (sym w.decide.ensures ∙ w.in-Stays.is) in (
+            did_plain (Some (command.Post post.claim post.reason)) (said ∙ post.is ∙ ap Some post.field-0-is)
                 (w.store-is ∙ stays.1 ∙ ap (λ (p : Predicate). post_store s p post.reason) predicate)
                 (made-post made _ _ value)
                 (w.reply-is ∙ w.of_post.ensures ∙ ap post_reply (stays.0 ∙ ap (post_answer s) predicate))
-                (post_plain (post_answer s (claim post.id post.kind post.value)))
+                (post_plain (post_answer s (predicate_of post.claim)))
                 (λ number. refl),
             ap length w.variables-is ∙ variables,
             ap length w.lowers-is ∙ lowers,
           )
-      | in-Post+in-Moves w ↦
-          let post = w.in-Post in
-          let value : SFits w32 post.value = search rules in
-          let predicate : (_ ≡ claim post.id post.kind post.value) = λ i. record { domain = record { 0 = w.new-domain.ensures i }; kind = post.kind; value = to_z-of_z value i } in
+      | in-Some-Post+in-Moves w ↦
+          let post = w.in-Some-Post in
+          let value : SFits w32 post.claim.value = search rules in
+          let predicate = w.from-predicate.ensures in
           let posted = w.post_predicate-posted in (
-            did_plain (command.Post post.id post.kind post.value post.reason) (said ∙ post.is)
+            did_plain (Some (command.Post post.claim post.reason)) (said ∙ post.is ∙ ap Some post.field-0-is)
                 (w.store-is ∙ posted.ensures.1 ∙ ap (λ (p : Predicate). post_store s p post.reason) predicate)
                 (made-post made _ _ value)
                 (w.reply-is ∙ w.of_post-in-Moves.ensures ∙ ap post_reply (posted.ensures.0 ∙ ap (post_answer s) predicate))
-                (post_plain (post_answer s (claim post.id post.kind post.value)))
+                (post_plain (post_answer s (predicate_of post.claim)))
                 (λ number. refl),
             ap length w.variables-is ∙ variables,
             ap length w.lowers-is ∙ lowers,
           )
-      | in-Open w ↦ (
-        did_plain command.Open (said ∙ w.in-Open.is)
+      | in-Some-Open w ↦ (
+        did_plain (Some command.Open) (said ∙ w.in-Some-Open.is ∙ ap Some w.in-Some-Open.field-0-is)
             (w.store-is ∙ w.new_checkpoint-opened.ensures.1)
             (made-open made)
             (w.reply-is ∙ w.of_open-reply.ensures ∙ ap open_reply w.new_checkpoint-opened.ensures.0)
@@ -131,11 +133,11 @@ loop-out-preserved c =
         ap length w.variables-is ∙ variables,
         ap length w.lowers-is ∙ lowers,
       )
-      | in-Back w ↦
-          let k = w.in-Back.checkpoint in
+      | in-Some-Back w ↦
+          let k = w.in-Some-Back.checkpoint in
           let gone = w.synchronise-gone in
           let room : min (length c.loop-out.variables) (length c.loop-out.lowers) ≡ 1024 = omega (arith, variables, lowers) in (
-            did (command.Back k) (said ∙ w.in-Back.is)
+            did (Some (command.Back k)) (said ∙ w.in-Some-Back.is ∙ ap Some w.in-Some-Back.field-0-is)
                 (w.store-is ∙ gone.ensures.store ∙ (λ i. synchronise_store s (w.new.ensures i) (room i)))
                 (made-back made _ 1024)
                 (λ number.
@@ -146,56 +148,58 @@ loop-out-preserved c =
             ap length w.variables-is ∙ search rules,
             ap length w.lowers-is ∙ search rules,
           )
-      | in-Ask w ↦
-          let asked = w.in-Ask in
-          let value : SFits w32 asked.value = search rules in (
-            did_plain (command.Ask asked.id asked.kind asked.value) (said ∙ asked.is)
+      | in-Some-Ask w ↦
+          let asked = w.in-Some-Ask in
+          let claim = asked.claim in
+          let predicate = w.from-predicate-in-Some-Ask.ensures in (
+            did_plain (Some (command.Ask claim)) (said ∙ asked.is ∙ ap Some asked.field-0-is)
                 w.store-is
                 made
                 (w.reply-is ∙ w.ask-reply.ensures
-                ∙ placed s.variables s.domains w.new-domain-in-Ask.result.0 w.place_of-in-Ask.result (truth_in s.holes asked.kind _) few w.place_of-in-Ask.ensures.1
-                ∙ (λ i. about s.domains (w.new-domain-in-Ask.ensures i) (truth_in s.holes asked.kind (to_z-of_z value i) (get_or s.variables (w.new-domain-in-Ask.ensures i) no_variable)))
-                ∙ truth_of_lem (leb s.domains (counted asked.id)) (Refused NoVariable) (truth asked.kind asked.value (domain_of s (counted asked.id))))
-                (truth_plain (pick (leb s.domains (counted asked.id)) (Refused NoVariable) (truth asked.kind asked.value (domain_of s (counted asked.id)))))
+                ∙ placed s.variables s.domains w.from-predicate-in-Some-Ask.result.domain.0 w.place_of-in-Some-Ask.result (truth_in s.holes w.from-predicate-in-Some-Ask.result.kind w.from-predicate-in-Some-Ask.result.value) few w.place_of-in-Some-Ask.ensures.1
+                ∙ ap (λ (p : Predicate). about s.domains p.domain.0 (truth_in s.holes p.kind p.value (get_or s.variables p.domain.0 no_variable))) predicate
+                ∙ truth_of_lem (leb s.domains (counted claim.id)) (Refused NoVariable) (truth claim.kind claim.value (domain_of s (counted claim.id))))
+                (truth_plain (pick (leb s.domains (counted claim.id)) (Refused NoVariable) (truth claim.kind claim.value (domain_of s (counted claim.id)))))
                 (λ number. refl),
             ap length w.variables-is ∙ variables,
             ap length w.lowers-is ∙ lowers,
           )
-      | in-At w ↦
-          let asked = w.in-At in
-          let value : SFits w32 asked.value = search rules in (
-            did_plain (command.At asked.position asked.id asked.kind asked.value) (said ∙ asked.is)
+      | in-Some-At w ↦
+          let asked = w.in-Some-At in
+          let claim = asked.claim in
+          let predicate = w.from-predicate-in-Some-At.ensures in (
+            did_plain (Some (command.At asked.position claim)) (said ∙ asked.is ∙ ap Some asked.field-0-is)
                 w.store-is
                 made
                 (w.reply-is ∙ w.ask_at-reply.ensures
-                ∙ placed s.variables s.domains w.new-domain-in-At.result.0 w.place_of-in-At.result (truth_at s.lower s.upper s.holes w.new-at.result.0 asked.kind _) few w.place_of-in-At.ensures.1
-                ∙ (λ i. about s.domains (w.new-domain-in-At.ensures i) (truth_at s.lower s.upper s.holes (w.new-at.ensures i) asked.kind (to_z-of_z value i) (get_or s.variables (w.new-domain-in-At.ensures i) no_variable)))
-                ∙ truth_of_lem (leb s.domains (counted asked.id)) (Refused NoVariable) (truth asked.kind asked.value (domain_at s (counted asked.id) (counted asked.position))))
-                (truth_plain (pick (leb s.domains (counted asked.id)) (Refused NoVariable) (truth asked.kind asked.value (domain_at s (counted asked.id) (counted asked.position)))))
+                ∙ placed s.variables s.domains w.from-predicate-in-Some-At.result.domain.0 w.place_of-in-Some-At.result (truth_at s.lower s.upper s.holes w.new-at.result.0 w.from-predicate-in-Some-At.result.kind w.from-predicate-in-Some-At.result.value) few w.place_of-in-Some-At.ensures.1
+                ∙ (λ i. about s.domains (predicate i).domain.0 (truth_at s.lower s.upper s.holes (w.new-at.ensures i) (predicate i).kind (predicate i).value (get_or s.variables (predicate i).domain.0 no_variable)))
+                ∙ truth_of_lem (leb s.domains (counted claim.id)) (Refused NoVariable) (truth claim.kind claim.value (domain_at s (counted claim.id) (counted asked.position))))
+                (truth_plain (pick (leb s.domains (counted claim.id)) (Refused NoVariable) (truth claim.kind claim.value (domain_at s (counted claim.id) (counted asked.position)))))
                 (λ number. refl),
             ap length w.variables-is ∙ variables,
             ap length w.lowers-is ∙ lowers,
           )
-      | in-Show w ↦
-          let id = w.in-Show.id in (
-            did_plain (command.Show id) (said ∙ w.in-Show.is)
+      | in-Some-Show w ↦
+          let id = w.in-Some-Show.id in (
+            did_plain (Some (command.Show id)) (said ∙ w.in-Some-Show.is ∙ ap Some w.in-Some-Show.field-0-is)
                 w.store-is
                 made
                 (w.reply-is ∙ w.show-reply.ensures s.holes
-                ∙ placed s.variables s.domains w.new-domain-in-Show.result.0 w.place_of-in-Show.result (shown_in s.holes) few w.place_of-in-Show.ensures.1
-                ∙ (λ i. about s.domains (w.new-domain-in-Show.ensures i) (shown_in s.holes (get_or s.variables (w.new-domain-in-Show.ensures i) no_variable))))
+                ∙ placed s.variables s.domains w.new-domain.result.0 w.place_of-in-Some-Show.result (shown_in s.holes) few w.place_of-in-Some-Show.ensures.1
+                ∙ (λ i. about s.domains (w.new-domain.ensures i) (shown_in s.holes (get_or s.variables (w.new-domain.ensures i) no_variable))))
                 (pick_plain (leb s.domains (counted id)) (refused_by NoVariable) (shown (domain_of s (counted id))) (λ number variables lowers. refl) (λ number variables lowers. refl))
                 (λ number. refl),
             ap length w.variables-is ∙ variables,
             ap length w.lowers-is ∙ lowers,
           )
-      | in-Count w ↦ (
-        did_plain command.Count (said ∙ w.in-Count.is) w.store-is made w.reply-is (λ number variables lowers. refl) (λ number. refl),
+      | in-Some-Count w ↦ (
+        did_plain (Some command.Count) (said ∙ w.in-Some-Count.is ∙ ap Some w.in-Some-Count.field-0-is) w.store-is made w.reply-is (λ number variables lowers. refl) (λ number. refl),
         ap length w.variables-is ∙ variables,
         ap length w.lowers-is ∙ lowers,
       )
-      | in-Bad w ↦ (
-        did_plain command.Bad (said ∙ w.in-Bad.is) w.store-is made w.reply-is (λ number variables lowers. refl) (λ number. refl),
+      | in-None w ↦ (
+        did_plain None (said ∙ w.in-None.is) w.store-is made w.reply-is (λ number variables lowers. refl) (λ number. refl),
         ap length w.variables-is ∙ variables,
         ap length w.lowers-is ∙ lowers,
       )
