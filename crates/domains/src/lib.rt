@@ -3,19 +3,29 @@
 #![tactic(auto)]
 
 ghost use Rattle.std.specs.Prelude.{◌≡◌};
+ghost use Rattle.std.specs.Int.Signed.{lt_z};
 ghost use Rattle.domains.specs.Domain.{is_not_equal, pruned_by};
 
 use predicates::PredicateType;
 
 // The least and the greatest value that may be left; none is left where lower > upper.
-#[derive(Clone, Copy)]
+#[derive(Clone, Copy, PartialEq, Eq, Debug)]
 pub struct Bounds {
     pub lower: i32,
     pub upper: i32,
 }
 
+impl Bounds {
+    // Whether no value is left.
+    pub fn is_empty(self) -> bool
+        ensures { result ≡ lt_z self.upper self.lower }
+    {
+        self.upper < self.lower
+    }
+}
+
 // What a post comes to, before anything is recorded.
-#[derive(Clone, Copy)]
+#[derive(Clone, Copy, PartialEq, Eq, Debug)]
 pub enum Step {
     // It does nothing.
     Nothing,
@@ -28,31 +38,18 @@ pub enum Step {
 pub fn is_not_equal_predicate(kind: PredicateType) -> bool
     ensures { result ≡ is_not_equal kind }
 {
-    match kind {
-        PredicateType::LowerBound => false,
-        PredicateType::NotEqual => true,
-        PredicateType::Equal => false,
-        PredicateType::UpperBound => false,
-    }
-}
-
-fn wide(number: u32) -> u64
-    ensures { result ≡ number }
-{
-    number as u64
+    kind == PredicateType::NotEqual
 }
 
 // What an entry adds to the count, and its undoing takes from it.
 pub fn pruned(kind: PredicateType, from: Bounds, to: Bounds) -> u64
     ensures { result ≡ pruned_by kind from to }
 {
-    let below = wide(integers::abs_diff(from.lower, to.lower));
-    let above = wide(integers::abs_diff(from.upper, to.upper));
+    let below = u64::from(integers::abs_diff(from.lower, to.lower));
+    let above = u64::from(integers::abs_diff(from.upper, to.upper));
     let moved = below + above;
-    if moved == 0 {
-        if is_not_equal_predicate(kind) {
-            return 1;
-        }
+    if moved == 0 && is_not_equal_predicate(kind) {
+        return 1;
     }
     moved
 }

@@ -7,21 +7,22 @@ ghost use Rattle.predicates.specs.Codes.{code_of};
 ghost use Rattle.predicates.specs.Counts.{counted};
 
 // A variable's number.
-#[derive(Clone, Copy)]
+#[derive(Clone, Copy, PartialEq, Eq, Debug)]
 pub struct DomainId(pub u16);
 
 // A checkpoint's number; 0 is the root.
-#[derive(Clone, Copy)]
+#[derive(Clone, Copy, PartialEq, Eq, Debug)]
 pub struct Checkpoint(pub u16);
 
 // A place on the trail.
-#[derive(Clone, Copy)]
+#[derive(Clone, Copy, PartialEq, Eq, Debug)]
 pub struct TrailPosition(pub u16);
 
+// The number, or the last of 16 bits for all that don't fit.
 fn clipped(number: u32) -> u16
     ensures { result ≡ counted number }
 {
-    if number < 65535 { number as u16 } else { 65535 }
+    u16::try_from(number).unwrap_or(u16::MAX)
 }
 
 impl DomainId {
@@ -49,7 +50,7 @@ impl TrailPosition {
 }
 
 // The four kinds; a value of this type has no fifth code.
-#[derive(Clone, Copy)]
+#[derive(Clone, Copy, PartialEq, Eq, Debug)]
 pub enum PredicateType {
     LowerBound,
     NotEqual,
@@ -79,7 +80,7 @@ impl PredicateType {
 }
 
 // A claim about one variable: at least, not, equal to or at most `value`.
-#[derive(Clone, Copy)]
+#[derive(Clone, Copy, PartialEq, Eq, Debug)]
 pub struct Predicate {
     pub domain: DomainId,
     pub kind: PredicateType,
@@ -129,7 +130,7 @@ impl Predicate {
 }
 
 // Why an entry is on the trail: nothing, or the number that the host gave.
-#[derive(Clone, Copy)]
+#[derive(Clone, Copy, PartialEq, Eq, Debug)]
 pub enum Reason {
     None,
     Given(u32),

@@ -10,10 +10,10 @@ use Rattle.integers.specs.Distance.{distance}
 use Rattle.domains.proofs.Tests.{clash}
 use Rattle.domains.proofs.Counting.{moved, counts_one, counts_moved}
 use Rattle.domains.proofs.pruned.Goals as goal
-use Rattle.domains.proofs.pruned.Goals.{After-wide-above}
+use Rattle.domains.proofs.pruned.Goals.{After-from-above, else-moved-eq0-via-then-moved-eq0+else-is_not_equal_predicate, else-moved-eq0-via-else-moved-eq0}
 
 -- the sum is that of the distances
-sum : (c : After-wide-above) → c.wide-below.result + c.wide-above.result ≡ moved c.args.kind c.args.from c.args.to
+sum : (c : After-from-above) → c.from-below.result + c.from-above.result ≡ moved c.args.kind c.args.from c.args.to
 sum c =
     let from = c.args.from in
     let to = c.args.to in
@@ -21,19 +21,21 @@ sum c =
     let fu : SFits w32 from.upper = search rules in
     let tl : SFits w32 to.lower = search rules in
     let tu : SFits w32 to.upper = search rules in
-    let below : c.wide-below.result ≡ distance from.lower to.lower = c.wide-below.ensures ∙ (simp (to_z-of_z fl, to_z-of_z tl) at c.abs_diff.ensures) in
-    let above : c.wide-above.result ≡ distance from.upper to.upper = c.wide-above.ensures ∙ (simp (to_z-of_z fu, to_z-of_z tu) at c.abs_diff-2.ensures) in
+    let below : c.from-below.result ≡ distance from.lower to.lower = c.from-below.ensures ∙ (simp (to_z-of_z fl, to_z-of_z tl) at c.abs_diff.ensures) in
+    let above : c.from-above.result ≡ distance from.upper to.upper = c.from-above.ensures ∙ (simp (to_z-of_z fu, to_z-of_z tu) at c.abs_diff-2.ensures) in
     omega arith
 
 pub returns-then-is_not_equal_predicate : goal.returns-then-is_not_equal_predicate
 returns-then-is_not_equal_predicate c =
-    counts_one c.args.kind c.args.from c.args.to (sym (sum (goal.at.returns-then-is_not_equal_predicate c).After-wide-above) ∙ c.if-moved-eq0.true) (sym c.is_not_equal_predicate.ensures ∙ c.if-is_not_equal_predicate.true)
+    counts_one c.args.kind c.args.from c.args.to (sym (sum (goal.at.returns-then-is_not_equal_predicate c).After-from-above) ∙ c.if-moved-eq0.true) (sym c.is_not_equal_predicate.ensures ∙ c.if-is_not_equal_predicate.true)
 
-pub returns-else-is_not_equal_predicate : goal.returns-else-is_not_equal_predicate
-returns-else-is_not_equal_predicate c =
-    sum (goal.at.returns-else-is_not_equal_predicate c).After-wide-above
-    ∙ counts_moved c.args.kind c.args.from c.args.to (λ n z. clash n (sym c.is_not_equal_predicate.ensures ∙ c.if-is_not_equal_predicate.false))
-
-pub returns-else-moved-eq0 : goal.returns-else-moved-eq0
-returns-else-moved-eq0 c =
-    sum (goal.at.returns-else-moved-eq0 c).After-wide-above ∙ counts_moved c.args.kind c.args.from c.args.to (λ n z. c.if-moved-eq0.false (sum (goal.at.returns-else-moved-eq0 c).After-wide-above ∙ z))
+pub returns : goal.returns
+returns c =
+    let total = sum (goal.at.returns c).After-from-above in
+    total
+    ∙ counts_moved c.args.kind c.args.from c.args.to
+    (λ n z.
+    elim c.else-moved-eq0.branch [
+      | else-moved-eq0-via-then-moved-eq0+else-is_not_equal_predicate w ↦ clash n (sym w.is_not_equal_predicate.ensures ∙ w.if-is_not_equal_predicate.false)
+      | else-moved-eq0-via-else-moved-eq0 w ↦ w.if-moved-eq0.false (total ∙ z)
+    ])
