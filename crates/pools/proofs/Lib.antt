@@ -1,3 +1,4 @@
 pub mod ChainLaws
+pub mod WalkLaws
 pub mod RunLaws
 pub mod Bits

@@ -20,6 +20,7 @@ use Rattle.integers.specs.Distance.{distance}
 use Rattle.domains.specs.Choice.{pick}
 use Rattle.domains.specs.Domain.{has, width, raised, lowered}
 use Rattle.domains.proofs.Stepping.{raised_is, lowered_is}
+use Rattle.std.proofs.Common.{Option, Some, None, SomeIff}
 use Rattle.pools.specs.Runs.{shifted, Place, Marked, FirstClear, Steps}
 
 -- the greater of two numbers lies their distance above the smaller
@@ -46,34 +47,31 @@ agree k r a b there back = go (eqb k r) refl (eq_z a b) refl
     go false p true q = let same : a ≡ b = omega integers in absurd (eqb-false _ _ p (back same))
     go false p false q = p ∙ sym q
 
--- the place of a value above
+-- the answer of `ahead`: the distance, where the value lies so far above, is its place in the window
 module _ (from v : ℤ) where
-  -- it is 1,024 where the value is none of the window's
-  elsewhere : ((k : ℕ) → k < 1024 → from +ℤ pos k ≡ v → ⊥) → Place true from v 1024
-  elsewhere n = record { within = omega arith; here = λ k j. agree k 1024 (from +ℤ pos k) v (λ e. absurd (omega arith)) (λ e. absurd (n k j e)) }
-
-  -- as is one below
-  pub behind : v <ℤ from → Place true from v 1024
-  behind h = elsewhere (λ k j e. omega (integers, add= from (pos k)))
-
-  -- or past the window
-  pub far : from ≤ℤ v → 1024 ≤ distance from v → Place true from v 1024
-  far h g = elsewhere (λ k j e. omega (integers, add= from (pos k), apart from v h))
-
-  -- and for the others it is the distance
-  pub near : from ≤ℤ v → distance from v < 1024 → Place true from v (distance from v)
-  near h g =
+  pub above : (r : Option ℕ) → SomeIff r ((from ≤ℤ v) × (distance from v < 1024)) (distance from v) → Place true from v r
+  above None n = record { within = tt; here = λ k h. absent k h (eq_z (from +ℤ pos k) v) refl }
+    where
+      absent : (k : ℕ) → k < 1024 → (t : Bool) → eq_z (from +ℤ pos k) v ≡ t → false ≡ t
+      absent k h false e = refl
+      absent k h true e =
+          let sum = add= from (pos k) in
+          let above : from ≤ℤ v = omega integers in
+          let between = apart from v above in
+          absurd (n (above, omega integers))
+  above (Some r) f =
       record {
-        within = omega arith;
+        within = omega (arith, f.0.1, f.1);
         here =
-            λ k j.
-            let above = add= from (pos k) in
-            let between = apart from v h in
-            agree k (distance from v) (from +ℤ pos k) v (λ e. omega integers) (λ e. omega integers);
+            λ k h.
+            let sum = add= from (pos k) in
+            let between = apart from v f.0.0 in
+            let far = f.1 in
+            agree k r (from +ℤ pos k) v (λ e. omega integers) (λ e. omega integers);
       }
 
 -- a value lies as far below a number as that lies above the value
-pub mirrored : (from v : ℤ) (r : ℕ) → Place true v from r → Place false from v r
+pub mirrored : (from v : ℤ) (r : Option ℕ) → Place true v from r → Place false from v r
 mirrored from v r p = record { within = p.within; here = λ k h. p.here k h ∙ turned k (eq_z (v +ℤ pos k) from) refl }
   where
     turned : (k : ℕ) (t : Bool) → eq_z (v +ℤ pos k) from ≡ t → t ≡ eq_z (from -ℤ pos k) v
@@ -89,16 +87,23 @@ set_mark marks r k h = go (eqb k r) refl
     go false e = get_or-set_other marks r k true false (eqb-false k r e)
 
 -- a value is marked, or still among those to come: marking the first of those keeps that
-pub marks_more :
-    (up : Bool) (from v : ℤ) (marks : List Bool) (r : ℕ) (rest : List ℤ) (k : ℕ) → r < length marks → Place up from v r → k < 1024
-    → (has rest (shifted up from k) || get_or (set marks r true) k false) ≡ (has (v ∷ rest) (shifted up from k) || get_or marks k false)
-marks_more up from v marks r rest k l p h =
-    rw (set_mark marks r k l, p.here k h) (turned (eq_z (shifted up from k) v) (has rest (shifted up from k)) (get_or marks k false))
-  where
-    turned : (a b c : Bool) → (b || (a || c)) ≡ ((a || b) || c)
-    turned true true c = refl
-    turned true false c = refl
-    turned false b c = refl
+module _ (up : Bool) (from v : ℤ) (marks : List Bool) (rest : List ℤ) (k : ℕ) where
+  pub marks_more :
+      (r : ℕ) → r < length marks → Place up from v (Some r) → k < 1024
+      → (has rest (shifted up from k) || get_or (set marks r true) k false) ≡ (has (v ∷ rest) (shifted up from k) || get_or marks k false)
+  marks_more r l p h =
+      rw (set_mark marks r k l, p.here k h) (turned (eq_z (shifted up from k) v) (has rest (shifted up from k)) (get_or marks k false))
+    where
+      turned : (a b c : Bool) → (b || (a || c)) ≡ ((a || b) || c)
+      turned true true c = refl
+      turned true false c = refl
+      turned false b c = refl
+
+  -- and one outside the window needs no mark
+  pub marks_same :
+      Place up from v None → k < 1024
+      → (has rest (shifted up from k) || get_or marks k false) ≡ (has (v ∷ rest) (shifted up from k) || get_or marks k false)
+  marks_same p h = rw (sym (p.here k h)) refl
 
 -- the values but for x
 without : List ℤ → ℤ → List ℤ

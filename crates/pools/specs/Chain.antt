@@ -1,9 +1,10 @@
 -- The updates of one variable: those of the pool that its links lead through, newest first. Assumes nothing.
 -- A link is a place counted from 1, and 0 is none. Only links that lead down are followed, so the walk ends on any content.
-use Rattle.std.specs.Prelude.{ℕ, zero, suc, List, [], ◌∷◌, map, ℤ, pos, get_or, set, replicate, ltb, leb, eqb}
+use Rattle.std.specs.Prelude.{ℕ, zero, suc, List, [], ◌∷◌, map, ℤ, pos, length, get_or, set, replicate, ltb, leb, eqb}
 use Rattle.domains.specs.Choice.{pick}
 use Rattle.pools.specs.declared.Update.{Update}
 use Rattle.pools.specs.declared.Pool.{Pool}
+use Rattle.pools.specs.declared.walks.Updates.{Updates}
 
 -- a blank place
 abbrev pub no_update : Update
@@ -40,3 +41,7 @@ up_to (u ∷ us) p = pick (leb u.position.0 p) (u ∷ up_to us p) (up_to us p)
 abbrev pub newest_or : List Update → ℤ → ℤ
 newest_or [] otherwise = otherwise
 newest_or (u ∷ us) otherwise = u.value
+
+-- the updates that are left of a walk
+unfoldable pub left : Updates → List Update
+left w = chain w.places.now (length w.places.now) w.link

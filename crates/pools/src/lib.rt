@@ -2,16 +2,23 @@
 // Relies on integers, predicates and domains.
 #![tactic(auto)]
 
-ghost use Rattle.std.specs.Prelude.{◌≡◌, true, pos, negsuc, ◌<ℤ◌};
+ghost use Rattle.std.specs.Prelude.{◌≡◌, ℕ, ◌<◌, Bool, true, Some, ℤ, pos, negsuc, ◌<ℤ◌};
 ghost use Rattle.domains.specs.Domain.{has, width, raised, lowered};
-ghost use Rattle.pools.specs.Chain.{no_update, no_updates, pushed, values_of, chain_of, up_to, newest_or};
-ghost use Rattle.pools.specs.Runs.{Place, Marked, FirstClear, Steps};
+ghost use Rattle.pools.specs.Chain.{no_update, no_updates, pushed, values_of, chain_of, up_to, newest_or, left};
+ghost use Rattle.pools.specs.declared.TheConstants.{WINDOW};
+ghost use Rattle.pools.specs.Runs.{Places, Marked, FirstClear, Steps};
+
+mod walks;
 
 use predicates::TrailPosition;
+use walks::Updates;
+
+// How many values a step over holes looks at: as many as the pool has places.
+const WINDOW: usize = 1024;
 
 // A bound that moved, or a value that was removed: the value, the entry that did it, and the variable's update before
 // it, counted from 1, with 0 for none.
-#[derive(Clone, Copy)]
+#[derive(Clone, Copy, PartialEq, Eq, Debug)]
 pub struct Update {
     pub value: i32,
     pub position: TrailPosition,
@@ -41,125 +48,82 @@ impl Pool {
     pub fn empty() -> Self
         ensures { result ≡ no_updates }
     {
-        let blank = Update::blank();
-        let updates = [blank; 1024];
-        Pool { updates, length: 0 }
+        Pool {
+            updates: [Update::blank(); 1024],
+            length: 0,
+        }
     }
 
     // The pool with one update more, if there is room.
     pub fn push(mut self, update: Update) -> Self
         ensures { result ≡ pushed self update }
     {
-        let at = self.length;
-        if at < 1024 {
-            self.updates[at] = update;
-            self.length = at + 1;
+        if self.length < 1024 {
+            self.updates[self.length] = update;
+            self.length += 1;
         }
         self
+    }
+
+    // The updates of the variable whose newest is `newest`, from that one back.
+    fn newest_first(&self, newest: u16) -> Updates<'_>
+        ensures { left result ≡ chain_of self.now.updates newest }
+    {
+        Updates {
+            places: &self.updates,
+            link: usize::from(newest),
+        }
     }
 
     // Whether `value` is among the values of the variable whose newest update is `newest`.
     pub fn contains(self, newest: u16, value: i32) -> bool
         ensures { result ≡ has (values_of (chain_of self.updates newest)) value }
     {
-        let mut below: usize = 1024; // a link leads down: the next is at most this
-        let mut link = newest as usize;
-        while 0 < link {
-            if below < link { // so the walk ends, whatever the pool holds
-                return false;
-            }
-            let at = link - 1;
-            let update = self.updates[at];
-            let held = update.value;
-            if held == value {
-                return true;
-            }
-            below = at;
-            link = update.previous as usize;
-        }
-        false
+        self.newest_first(newest)
+            .any(|update| update.value == value)
     }
 
     // The value of the newest update at or before `position`, or `otherwise` if there is none.
     pub fn value_at(self, newest: u16, position: TrailPosition, otherwise: i32) -> i32
         ensures { result ≡ newest_or (up_to (chain_of self.updates newest) position.0) otherwise }
     {
-        let last = position.0;
-        let mut below: usize = 1024;
-        let mut link = newest as usize;
-        while 0 < link {
-            if below < link {
-                return otherwise;
-            }
-            let at = link - 1;
-            let update = self.updates[at];
-            let made = update.position;
-            let when = made.0;
-            if when <= last { // an update at the position counts
-                return update.value;
-            }
-            below = at;
-            link = update.previous as usize;
-        }
-        otherwise
+        self.newest_first(newest)
+            .find(|update| update.position.0 <= position.0)
+            .map_or(otherwise, |update| update.value)
     }
 
     // Whether `value` is among the values of the updates at or before `position`.
     pub fn contains_at(self, newest: u16, position: TrailPosition, value: i32) -> bool
         ensures { result ≡ has (values_of (up_to (chain_of self.updates newest) position.0)) value }
     {
-        let last = position.0;
-        let mut below: usize = 1024;
-        let mut link = newest as usize;
-        while 0 < link {
-            if below < link {
-                return false;
-            }
-            let at = link - 1;
-            let update = self.updates[at];
-            let made = update.position;
-            let when = made.0;
-            let held = update.value;
-            if when <= last {
-                if held == value {
-                    return true;
-                }
-            }
-            below = at;
-            link = update.previous as usize;
-        }
-        false
+        self.newest_first(newest)
+            .filter(|update| update.position.0 <= position.0)
+            .any(|update| update.value == value)
     }
 
-    // Which of the 1,024 values from `from` on, upwards or downwards, are the variable's. Place 1,024 takes all others.
-    fn marks(self, newest: u16, from: i32, upwards: bool) -> [bool; 1025]
-        ensures { Marked (values_of (chain_of self.updates newest)) upwards from result }
+    // Which places of a window are those of the variable's values.
+    fn marks<F: Fn(i32) -> Option<usize>>(&self, newest: u16, place: F) -> [bool; WINDOW]
+        requires callable { F.IsAlwaysCallable place }
+        requires within { (v : ℤ) (n : ℕ) → F.post place v (Some n) → n < WINDOW }
+        ensures { (up : Bool) (from : ℤ) → Places (F.post place) up from → Marked (values_of (chain_of self.now.updates newest)) up from result }
     {
-        let mut marks = [false; 1025];
-        let mut below: usize = 1024;
-        let mut link = newest as usize;
-        while 0 < link {
-            if below < link {
-                return marks;
+        let mut marks = [false; WINDOW];
+        for update in self.newest_first(newest) {
+            if let Some(mark) = place(update.value) {
+                marks[mark] = true;
             }
-            let at = link - 1;
-            let update = self.updates[at];
-            let held = update.value;
-            let mark = place(from, held, upwards);
-            marks[mark] = true;
-            below = at;
-            link = update.previous as usize;
         }
         marks
     }
 
-    // How many of the values from `from` on, one after the other and `most` at the most, are the variable's. One window
-    // of marks is enough: the pool has no room for a longer run.
-    fn steps(self, newest: u16, from: i32, most: usize, upwards: bool) -> usize
-        ensures { Steps (values_of (chain_of self.updates newest)) upwards from most result }
+    // How many of the values from a value on, one after the other and `most` at the most, are the variable's. One window
+    // of marks is enough: the pool has no room for a longer run. `place` tells where in the window a value stands.
+    fn steps<F: Fn(i32) -> Option<usize>>(&self, newest: u16, most: usize, place: F) -> usize
+        requires callable { F.IsAlwaysCallable place }
+        requires within { (v : ℤ) (n : ℕ) → F.post place v (Some n) → n < WINDOW }
+        ensures { (up : Bool) (from : ℤ) → Places (F.post place) up from → Steps (values_of (chain_of self.now.updates newest)) up from most result }
     {
-        let run = first_clear(self.marks(newest, from, upwards));
-        if run < most { run } else { most }
+        first_clear(&self.marks(newest, place)).min(most)
     }
 
     // Where a lower bound that becomes `from` comes to rest, with these values as holes.
@@ -167,7 +131,11 @@ impl Pool {
         requires { has (values_of (chain_of self.updates newest)) upper ≡ true → upper <ℤ pos 2147483647 }
         ensures { result ≡ raised (values_of (chain_of self.updates newest)) upper from }
     {
-        let steps = self.steps(newest, from, span(from, upper), true);
+        let steps = self.steps(
+            newest,
+            span(from, upper),
+            |value| integers::ahead::<WINDOW>(from, value),
+        );
         from + steps as i32
     }
 
@@ -176,7 +144,11 @@ impl Pool {
         requires { has (values_of (chain_of self.updates newest)) lower ≡ true → negsuc 2147483647 <ℤ lower }
         ensures { result ≡ lowered (values_of (chain_of self.updates newest)) lower from }
     {
-        let steps = self.steps(newest, from, span(lower, from), false);
+        let steps = self.steps(
+            newest,
+            span(lower, from),
+            |value| integers::ahead::<WINDOW>(value, from),
+        );
         from - steps as i32
     }
 }
@@ -191,38 +163,9 @@ fn span(from: i32, to: i32) -> usize
     integers::abs_diff(from, to) as usize + 1
 }
 
-// How far above `from` the value `to` lies; 1,024 where it lies that far or further, or below.
-fn ahead(from: i32, to: i32) -> usize
-    ensures { Place true from to result }
+// The first mark that is clear; 1,024 where none is.
+fn first_clear(marks: &[bool; WINDOW]) -> usize
+    ensures { FirstClear marks.now result }
 {
-    if to < from {
-        return 1024;
-    }
-    let far = integers::abs_diff(from, to) as usize;
-    if far < 1024 { far } else { 1024 }
-}
-
-// The place of `value` among the marks.
-fn place(from: i32, value: i32, upwards: bool) -> usize
-    ensures { Place upwards from value result }
-{
-    if upwards {
-        ahead(from, value)
-    } else {
-        ahead(value, from)
-    }
-}
-
-// The first of the first 1,024 marks that is clear; 1,024 where none is.
-fn first_clear(marks: [bool; 1025]) -> usize
-    ensures { FirstClear marks result }
-{
-    let mut at: usize = 0;
-    while at < 1024 {
-        if !marks[at] {
-            return at;
-        }
-        at += 1;
-    }
-    at
+    marks.iter().position(|mark| !*mark).unwrap_or(WINDOW)
 }

@@ -4,4 +4,4 @@ use Rattle.pools.proofs.Pool.empty.Goals as goal
 
 pub returns : goal.returns
 unfolding no_updates
-returns c = rw c.blank-blank.ensures
+returns c = rw c.blank.ensures

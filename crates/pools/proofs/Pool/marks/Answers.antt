@@ -1,47 +1,41 @@
--- `marks` marks the variable's values: each turn passes one update of the chain, and sets the mark of its value's place.
-use Rattle.std.proofs.Common.{rules}
-use Prim.Native.Nat.{◌-◌}
-use mathlib.Core.Path.{◌≡◌, ◌∙◌}
-use mathlib.Core.Bool.{true, false, or-false}
-use lib.ListN.{get_or, length-replicate, get_or-replicate, length-set}
-use mir.Syntax.{w32}
-use mir.Facts.{to_z-of_z}
-use native.Mathlib.Omega.{arith}
-use Rattle.pools.specs.Chain.{no_update, chain, values_of}
-use Rattle.pools.proofs.ChainLaws.{one_step, no_link, past_end}
-use Rattle.pools.proofs.RunLaws.{marks_more}
+-- `marks` marks the places of the variable's values: each turn passes one update of the walk, and sets the mark of its value's place.
+use Rattle.std.proofs.Common.{rules, ◌∙◌, Some, None, true, false, length-set, arith, w32, to_z-of_z, SFits}
+use Rattle.std.proofs.lemmas.List.{length-replicate, get_or-replicate}
+use mathlib.Core.Bool.{or-false}
+use Rattle.pools.specs.Chain.{values_of, left}
+use Rattle.pools.specs.Runs.{Place}
+use Rattle.pools.proofs.RunLaws.{marks_more, marks_same}
 use Rattle.pools.proofs.Pool.marks.Goals as goal
 
-pub loop-link-init : goal.loop-link-init
-loop-link-init c = (omega arith, length-replicate 1025 false, λ k h. rw (get_or-replicate 1025 k false false (omega arith)) (or-false _))
+pub loop-update-init : goal.loop-update-init
+loop-update-init g c = (search rules, search rules, length-replicate 1024 false, λ up from p k h. rw (get_or-replicate 1024 k false false h, c.into_iter-update-iterator.ensures.into_iter_gives, c.newest_first-update-items.ensures) (or-false _))
 
-pub returns-then-below-link : goal.returns-then-below-link
-returns-then-below-link c =
-    let none = past_end c.args.self.updates c.loop-link.below c.loop-link.link c.if-below-link.true in
-    record { tells = λ k h. rw (none, to_z-of_z c.ranges.from) at (c.loop-link.invariant.2 k h) }
+pub loop-update-preserved-in-Some-place : goal.loop-update-preserved-in-Some-place
+loop-update-preserved-in-Some-place g c =
+    let marks = c.loop-update.marks in
+    let mark = c.in-Some-place.mark in
+    let value : SFits w32 c.in-Some.update.value = search rules in
+    let below = c.requires.within _ mark c.in-Some-place.ensures in (
+      search rules,
+      search rules,
+      length-set marks mark true ∙ c.loop-update.invariant.2,
+      λ up from p k h.
+          let place : Place up from c.in-Some.update.value (Some mark) = simp (to_z-of_z value) at (p _ _ c.in-Some-place.ensures) in
+          marks_more up from c.in-Some.update.value marks (values_of (left c.next.new.self)) k mark (omega (arith, below, c.loop-update.invariant.2)) place h
+          ∙ (rw c.in-Some.ensures.steps at (c.loop-update.invariant.3 up from p k h)),
+    )
 
-pub loop-link-preserved : goal.loop-link-preserved
-loop-link-preserved c =
-    let a = c.args in
-    let r = c.place-mark.result in
-    let from = to_z-of_z c.ranges.from in
-    let u = get_or a.self.updates (c.loop-link.link - 1) no_update in
-    let rest = values_of (chain a.self.updates (c.loop-link.link - 1) u.previous) in
-    let value = to_z-of_z {w = w32} {z = u.value} (search rules) in
-    let place = simp (from, value) at c.place-mark.ensures in (
-      omega arith,
-      length-set c.loop-link.marks r true ∙ c.loop-link.invariant.1,
-      λ k h.
-          rw from
-          (marks_more a.upwards a.from u.value c.loop-link.marks r rest k (omega (arith, place.within)) place h
-          ∙ (rw (from, one_step a.self.updates c.loop-link.below c.loop-link.link (omega arith) (omega arith)) at (c.loop-link.invariant.2 k h))),
+pub loop-update-preserved : goal.loop-update-preserved
+loop-update-preserved g c =
+    let value : SFits w32 c.in-Some.update.value = search rules in (
+      search rules,
+      search rules,
+      c.loop-update.invariant.2,
+      λ up from p k h.
+          let place : Place up from c.in-Some.update.value None = simp (to_z-of_z value) at (p _ _ c.in_default.ensures) in
+          marks_same up from c.in-Some.update.value c.loop-update.marks (values_of (left c.next.new.self)) k place h
+          ∙ (rw c.in-Some.ensures.steps at (c.loop-update.invariant.3 up from p k h)),
     )
 
 pub returns : goal.returns
-returns c =
-    let ended : c.loop-link.link ≡ 0 = omega arith in
-    record {
-      tells =
-          λ k h.
-          rw (ended, no_link c.args.self.updates, to_z-of_z c.ranges.from) at (c.loop-link.invariant.2 k h);
-    }
+returns g c up from p = record { tells = λ k h. rw c.in-None.ensures.steps.0 at (c.loop-update.invariant.3 up from p k h) }

@@ -1,30 +1,40 @@
 -- `step_down` takes the steps of the run from `from` on, no more than there are values down to the lower bound.
-use mathlib.Core.Path.{◌≡◌}
-use lib.IntN.{pos, ◌-ℤ◌}
-use mir.Syntax.{w32}
-use mir.Val.{SFits, to_z}
-use mir.Facts.{to_z-of_z}
-use native.Mathlib.Omega.{arith}
-use Rattle.domains.specs.Domain.{lowered}
+use Rattle.std.proofs.Common.{rules, ◌≡◌, pos, ◌-ℤ◌, false, w32, SFits, to_z-of_z, arith}
+use Rattle.domains.specs.Domain.{lowered, width}
 use Rattle.pools.specs.Chain.{chain_of, values_of}
-use Rattle.pools.proofs.RunLaws.{steps_down}
+use Rattle.pools.specs.Runs.{Steps}
+use Rattle.pools.proofs.RunLaws.{steps_down, above, mirrored}
 use Rattle.pools.proofs.Pool.step_down.Goals.{After-steps-steps}
 use Rattle.pools.proofs.Pool.step_down.Goals as goal
 
 -- after both calls
 module _ (c : After-steps-steps) where
+  -- the closure tells a value's place below `from`
+  run : Steps (values_of (chain_of c.args.self.updates c.args.newest)) false c.args.from (width c.args.lower c.args.from) c.steps-steps.result
+  run =
+      let from = to_z-of_z c.ranges.from in
+      let most = simp (from, to_z-of_z c.ranges.lower) at c.span.ensures in
+      simp most at (c.steps-steps.ensures false c.args.from (λ v r k. mirrored c.args.from v r (above v c.args.from r (search rules))))
+
   -- the steps are at most 1,024, so their bits as an i32 are the number itself
-  number : to_z w32 c.steps-steps.result ≡ pos c.steps-steps.result
-  number = to_z-of_z {w = w32} {z = pos c.steps-steps.result} (record { sfits = omega (arith, c.steps-steps.ensures.short) })
+  fits : SFits w32 (pos c.steps-steps.result)
+  fits = record { sfits = omega (arith, run.short) }
 
   -- the difference is an i32, and where the bound comes to rest
   right :
       SFits w32 (c.args.from -ℤ pos c.steps-steps.result)
       × (c.args.from -ℤ pos c.steps-steps.result ≡ lowered (values_of (chain_of c.args.self.updates c.args.newest)) c.args.lower c.args.from)
-  right =
-      let from = to_z-of_z c.ranges.from in
-      let most = simp (from, to_z-of_z c.ranges.lower) at c.span.ensures in
-      steps_down _ _ _ _ c.ranges.lower c.ranges.from c.requires (simp (from, most) at c.steps-steps.ensures)
+  right = steps_down _ _ _ _ c.ranges.lower c.ranges.from c.requires run
+
+pub overflow_cast-result : goal.overflow_cast-result
+overflow_cast-result c = fits (goal.at.overflow_cast-result c).After-steps-steps
+
+pub overflow_sub-result : goal.overflow_sub-result
+overflow_sub-result c =
+    let here = (goal.at.overflow_sub-result c).After-steps-steps in
+    simp (to_z-of_z c.ranges.from, to_z-of_z (fits here)) (right here).0
 
 pub returns : goal.returns
-returns c = simp (to_z-of_z c.ranges.from, number (goal.at.returns c).After-steps-steps, to_z-of_z (right (goal.at.returns c).After-steps-steps).0) (right (goal.at.returns c).After-steps-steps).1
+returns c =
+    let here = (goal.at.returns c).After-steps-steps in
+    simp (to_z-of_z c.ranges.from, to_z-of_z (fits here), to_z-of_z (right here).0) (right here).1

@@ -1,32 +1,16 @@
--- `value_at` stops at the newest update that is not past the position: each turn passes one that is.
-use Rattle.std.proofs.Common.{rules}
-use mathlib.Core.Path.{◌≡◌, ◌∙◌}
-use mir.Syntax.{w32}
-use mir.Facts.{to_z-of_z}
-use native.Mathlib.Omega.{arith}
-use borrow.Author.Tests.{le-leb, lt-leb}
-use Rattle.pools.proofs.ChainLaws.{one_step, no_link, past_end}
+-- `value_at` finds the newest update that is not past the position.
+use Rattle.std.proofs.Common.{w32, rules, tests, ◌∙◌, to_z-of_z, nat_le}
+use Rattle.std.proofs.lemmas.Iterator.Search.{find_from_yields_List}
+use Rattle.std.proofs.lemmas.Iterator.Consumers.{YieldsList-from_first}
+use Rattle.pools.specs.declared.Update.{Update}
+use Rattle.pools.specs.Chain.{left, chain_of}
+use Rattle.pools.proofs.WalkLaws.{find_up_to, find_value}
 use Rattle.pools.proofs.Pool.value_at.Goals as goal
-
-pub returns-then-below-link : goal.returns-then-below-link
-returns-then-below-link c =
-    let otherwise = to_z-of_z c.ranges.otherwise in
-    let none = past_end c.args.self.updates c.loop-link.below c.loop-link.link c.if-below-link.true in
-    otherwise ∙ (rw (otherwise, none) at c.loop-link.invariant.1)
-
-pub returns-then-when-last : goal.returns-then-when-last
-returns-then-when-last c =
-    let step = one_step c.args.self.updates c.loop-link.below c.loop-link.link (omega arith) (omega arith) in
-    to_z-of_z {w = w32} (search rules)
-    ∙ (rw (to_z-of_z c.ranges.otherwise, step, le-leb _ _ c.if-when-last.true) at c.loop-link.invariant.1)
-
-pub loop-link-preserved : goal.loop-link-preserved
-loop-link-preserved c =
-    let step = one_step c.args.self.updates c.loop-link.below c.loop-link.link (omega arith) (omega arith) in
-    (omega arith, rw (step, lt-leb _ _ c.if-when-last.false) at c.loop-link.invariant.1)
 
 pub returns : goal.returns
 returns c =
-    let otherwise = to_z-of_z c.ranges.otherwise in
-    let ended : c.loop-link.link ≡ 0 = omega arith in
-    otherwise ∙ (rw (otherwise, ended, no_link c.args.self.updates) at c.loop-link.invariant.1)
+    let all = chain_of c.args.self.updates c.args.newest in
+    let found = find_from_yields_List (λ (u : Update). nat_le u.position.0 c.args.position.0) _ _ c.find.result c.find.ensures.ran (YieldsList-from_first (λ (u : Update). u) left all c.newest_first.ensures) (λ x b q k. search (rules, tests)) in
+    to_z-of_z {w = w32} {z = c.map_or.result} (search rules)
+    ∙ find_value c.find.result _ _ c.args.otherwise _ found (simp (to_z-of_z c.ranges.otherwise) at c.map_or.ensures) (λ u k. search rules)
+    ∙ find_up_to all c.args.position.0 c.args.otherwise
