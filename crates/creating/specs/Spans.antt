@@ -1,5 +1,5 @@
--- The smallest and the largest of a list, as a pass over it finds them: from the first value on, until none is left. Tools. Assumes nothing.
-use Rattle.std.specs.Prelude.{ℕ, zero, suc, ◌≤◌, ◌<◌, ◌≡◌, refl, Bool, true, false, List, [], ◌∷◌, ℤ, pos, ◌≤ℤ◌, length, get_or, drop}
+-- The smallest and the largest of a list that has a value: they are in order, and both are listed. Tools. Assumes nothing.
+use Rattle.std.specs.Prelude.{◌<◌, ◌≡◌, refl, Bool, true, false, List, [], ◌∷◌, ℤ, ◌≤ℤ◌, length}
 use Rattle.std.specs.Int.Signed.{lt_z}
 use Rattle.std.proofs.Common.{arith}
 use Rattle.integers.proofs.Order.{integers}
@@ -7,19 +7,6 @@ use Rattle.domains.specs.Choice.{pick}
 use Rattle.domains.specs.Domain.{has}
 use Rattle.stories.specs.Calls.{smallest, largest, span_of, is_empty}
 use Rattle.stores.proofs.Lists.{smallest_listed, largest_listed}
-use Rattle.creating.specs.Parts.{between}
-
--- a pass begins with the first
-pub span_first : (vs : List ℤ) → 0 < length vs → between (smallest (get_or vs 0 (pos 0)) (drop 1 vs)) (largest (get_or vs 0 (pos 0)) (drop 1 vs)) ≡ span_of vs
-span_first [] h = absurd (omega arith)
-span_first (v ∷ vs) h = refl
-
--- past the end nothing is left
-pub drop_all : (vs : List ℤ) (n : ℕ) → length vs ≤ n → drop n vs ≡ []
-drop_all [] zero h = refl
-drop_all [] (suc n) h = refl
-drop_all (v ∷ vs) zero h = absurd (omega arith)
-drop_all (v ∷ vs) (suc n) h = drop_all vs n (omega arith)
 
 -- the smallest is not above the largest
 ordered : (vs : List ℤ) (a b : ℤ) → a ≤ℤ b → smallest a vs ≤ℤ largest b vs

@@ -19,7 +19,6 @@ use Rattle.stores.specs.declared.Assignments.{Assignments}
 use Rattle.stores.specs.Store.{no_variable, variable_of, domain_of, entered, push_if, recorded}
 use Rattle.stories.specs.Calls.{not_equal, unlisted, missing, span_of}
 use Rattle.stores.specs.Calls.{posted, removed_all}
-use Rattle.creating.specs.declared.Removed.{Removed}
 use Rattle.creating.specs.Parts.{without_reason}
 use Rattle.creating.specs.Dense.{no_distance}
 
@@ -101,11 +100,6 @@ pub record Done (vs : List ℤ) (g : Assignments) (x : ℕ) (s : Assignments) : 
   pub same : s ≡ removed_all g x (missing vs)
   pub long : s.trail.length ≡ g.trail.length + length (missing vs)
   pub short : s.trail.length ≤ 1024
-
--- that, or there is no room
-pub record Without (vs : List ℤ) (g : Assignments) (x : ℕ) (r : Removed) : Type 0 where
-  pub all : r.full ≡ false → Done vs g x r.store
-  pub none : r.full ≡ true → 1024 < g.trail.length + length (missing vs)
 
 -- from v on, v is the first
 next_width : (v u : ℤ) → v ≤ℤ u → width v u ≡ suc (width (suc_ℤ v) u)

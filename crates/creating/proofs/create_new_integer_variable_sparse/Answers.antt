@@ -1,4 +1,4 @@
--- The list is refused where the dense variable is, or where the walk gives up; else the walk removes what is missing, and the mark is set.
+-- The list is refused where the dense variable is, or where there is no room; else what is missing is removed, and the mark is set.
 use mathlib.Core.Path.{◌≡◌, sym, ap, ◌∙◌}
 use mathlib.Core.List.{List}
 use lib.IntN.{ℤ}
@@ -27,13 +27,13 @@ module _ (c : After-grow-grew) where
   values = c.args.values.now
 
   some : Spanned values
-  some = spanned values (omega (arith, c.if-values-eq0.false))
+  some = spanned values c.in-Some.ensures.0
 
-  span : between (to_z w32 (of_z w32 c.span_of-span.result.lower)) (to_z w32 (of_z w32 c.span_of-span.result.upper)) ≡ span_of values
+  span : between (to_z w32 (of_z w32 c.in-Some.span.lower)) (to_z w32 (of_z w32 c.in-Some.span.upper)) ≡ span_of values
   span =
-      let lower : SFits w32 c.span_of-span.result.lower = search rules in
-      let upper : SFits w32 c.span_of-span.result.upper = search rules in
-      (λ i. between (to_z-of_z lower i) (to_z-of_z upper i)) ∙ c.span_of-span.ensures
+      let lower : SFits w32 c.in-Some.span.lower = search rules in
+      let upper : SFits w32 c.in-Some.span.upper = search rules in
+      (λ i. between (to_z-of_z lower i) (to_z-of_z upper i)) ∙ c.in-Some.ensures.1
 
   answer : c.grow-grew.result.answer ≡ grow_answer store (span_of values)
   answer = c.grow-grew.ensures.0 ∙ ap (grow_answer store) span
@@ -41,39 +41,43 @@ module _ (c : After-grow-grew) where
   grown : c.grow-grew.result.store ≡ grow_store store (span_of values)
   grown = c.grow-grew.ensures.1 ∙ ap (grow_store store) span
 
-pub returns-then-values-eq0 : goal.returns-then-values-eq0
-returns-then-values-eq0 c =
-    let alike = nothing_alike c.args.store c.args.values.now c.if-values-eq0.true in
-    (c.grow.ensures.0 ∙ alike.0, c.grow.ensures.1 ∙ alike.1)
-
 pub returns-in_default : goal.returns-in_default
 returns-in_default c =
-    let g = (goal.at.returns-in_default c).After-grow-grew in
-    let alike = refused_alike (store g) (values g) (some g) _ (sym (answer g) ∙ c.in_default.is) in
+    let alike = nothing_alike c.args.store c.args.values.now c.in_default.ensures in
+    (c.grow.ensures.0 ∙ alike.0, c.grow.ensures.1 ∙ alike.1)
+
+pub returns-in_default-answer : goal.returns-in_default-answer
+returns-in_default-answer c =
+    let g = (goal.at.returns-in_default-answer c).After-grow-grew in
+    let alike = refused_alike (store g) (values g) (some g) _ (sym (answer g) ∙ c.in_default-answer.is) in
     (answer g ∙ alike.0, grown g ∙ alike.1)
 
-pub without_missing-removed-requires : goal.without_missing-removed-requires
-without_missing-removed-requires c =
-    let g = (goal.at.without_missing-removed-requires c).After-grow-grew in
-    let span = c.span_of-span.ensures in (
-      span,
-      rw (ap (λ (b : Bounds). b.lower) span)
-          (walk_start (store g) (values g) (some g) _ _ (sym (answer g) ∙ c.in-Ok.is) (grown g) (straight c.requires)),
-    )
+pub remove_missing-requires : goal.remove_missing-requires
+remove_missing-requires c =
+    let g = (goal.at.remove_missing-requires c).After-grow-grew in
+    let span = c.in-Some.ensures.1 in
+    record {
+      span = span;
+      walk =
+          rw (ap (λ (b : Bounds). b.lower) span)
+          (walk_start (store g) (values g) (some g) _ _ (sym (answer g) ∙ c.in-Ok.is) (grown g) (straight c.requires));
+    }
 
-pub returns-then-removed : goal.returns-then-removed
-returns-then-removed c =
-    let g = (goal.at.returns-then-removed c).After-grow-grew in
-    rw c.refused.ensures
-    (full_alike (store g) (values g) (some g) _ _ (sym (answer g) ∙ c.in-Ok.is) (grown g) (c.without_missing-removed.ensures.none c.if-removed.true))
+pub returns-in-Err : goal.returns-in-Err
+returns-in-Err c =
+    let g = (goal.at.returns-in-Err c).After-grow-grew in
+    let full = c.in-Err.ensures.full in
+    rw (c.refused.ensures, full.0)
+    (full_alike (store g) (values g) (some g) _ _ (sym (answer g) ∙ c.in-Ok.is) (grown g) full.1)
 
-pub with_mark-sparse-requires : goal.with_mark-sparse-requires
-with_mark-sparse-requires c =
-    let g = (goal.at.with_mark-sparse-requires c).After-grow-grew in
-    mark_there (store g) (values g) (some g) _ _ (sym (answer g) ∙ c.in-Ok.is) (grown g) _ (c.without_missing-removed.ensures.all c.if-removed.false)
+pub set_mark-requires : goal.set_mark-requires
+set_mark-requires c =
+    let g = (goal.at.set_mark-requires c).After-grow-grew in
+    let there = mark_there (store g) (values g) (some g) _ _ (sym (answer g) ∙ c.in-Ok.is) (grown g) _ c.in_default-remove_missing.ensures.taken in
+    record { number = there.0; some = there.1; short = omega (arith, there.2) }
 
 pub returns : goal.returns
 returns c =
     let g = (goal.at.returns c).After-grow-grew in
-    let taken = taken_alike (store g) (values g) (some g) _ _ (sym (answer g) ∙ c.in-Ok.is) (grown g) _ (c.without_missing-removed.ensures.all c.if-removed.false) in
-    (taken.0, c.with_mark-sparse.ensures ∙ taken.1)
+    let taken = taken_alike (store g) (values g) (some g) _ _ (sym (answer g) ∙ c.in-Ok.is) (grown g) _ c.in_default-remove_missing.ensures.taken in
+    (taken.0, c.set_mark.ensures ∙ taken.1)

@@ -1,8 +1,7 @@
--- `too_wide` compares the distance of the bounds, which is one less than the values between them, without a sum that could wrap.
+-- `too_wide` compares the distance of the bounds, which is one less than the values between them. A sum too large for it is wide anyhow.
 use mir.Syntax.{w32}
 use mir.Val.{SFits}
 use mir.Facts.{to_z-of_z}
-use Prim.Native.Nat.{◌-◌}
 use lib.IntN.{neg_ℤ, ◌-ℤ◌}
 use borrow.Author.Tests.{leb-true}
 use Rattle.integers.proofs.Order.{integers, abs=, add=, neg=}
@@ -17,4 +16,4 @@ returns c = λ e.
     let lower : SFits w32 b.lower = search rules in
     let upper : SFits w32 b.upper = search rules in
     let last = simp (to_z-of_z lower, to_z-of_z upper) at c.abs_diff-last.ensures in
-    omega (integers, c.requires, last, leb-true c.args.listed (c.abs_diff-last.result - c.args.room) e, c.if-last-room.false, abs= (b.upper -ℤ b.lower), add= b.upper (neg_ℤ b.lower), neg= b.lower)
+    omega (integers, c.requires, last, leb-true _ _ e, c.saturating_add.ensures, c.abs_diff-last.type_inv, abs= (b.upper -ℤ b.lower), add= b.upper (neg_ℤ b.lower), neg= b.lower)
