@@ -1,18 +1,15 @@
 // Opening a checkpoint, and going back to one. Relies on integers, predicates, domains, pools and stores.
 #![tactic(auto)]
 
-ghost use Rattle.std.specs.Prelude.{◌≡◌, ◌-◌, ◌≤◌, ◌<◌, min, length};
-ghost use Rattle.domains.specs.Choice.{pick};
-ghost use Rattle.domains.specs.Domain.{pruned_by};
-ghost use Rattle.pools.specs.Chain.{no_update};
-ghost use Rattle.stores.specs.Store.{differs, cut as blanked};
+ghost use Rattle.std.specs.Prelude.{◌≡◌, ◌≤◌, ◌<◌};
+ghost use Rattle.stores.specs.Store.{pop_if, back_if, undone_by};
 ghost use Rattle.stores.specs.Calls.{open_answer, open_store};
 ghost use Rattle.stores.specs.Made.{Made};
-ghost use Rattle.backtracking.specs.Outcome.{Appended, Outcome};
-ghost use Rattle.backtracking.specs.Traces.{traces_of, variable_before};
+ghost use Rattle.backtracking.specs.Outcome.{Appended, Outcome, room_of};
+ghost use Rattle.backtracking.specs.Sound.{Sound};
 
 use domains::is_not_equal_predicate;
-use pools::Update;
+use pools::{Pool, Update};
 use predicates::Checkpoint;
 use stores::{Assignments, Called, Variable};
 use stories::{Entry, Refusal};
@@ -38,143 +35,83 @@ pub fn new_checkpoint(mut store: Assignments) -> Called<Checkpoint>
     }
 }
 
-// The delimiters of the checkpoints above `from`, up to `to`, are blank again.
-fn cut(mut delimiters: [u16; 256], from: usize, to: usize) -> [u16; 256]
-    requires { (from ≤ to) × (to ≤ 256) }
-    ensures { result ≡ blanked (to - from) delimiters from }
+// Takes a pool's newest update out if it goes, and blanks its place. Gives the variable's link: to the update before it
+// then, and else as it was.
+fn take_if(pool: &mut Pool, goes: bool, link: u16) -> u16
+    requires { pool.old.length ≤ 1024 }
+    ensures rest { pool.new ≡ pop_if goes pool.old }
+    ensures link { result ≡ back_if goes pool.old link }
 {
-    let mut at = to;
-    while from < at {
-        at -= 1;
-        delimiters[at] = 0;
+    if !goes {
+        return link;
     }
-    delimiters
+    let last = pool.length.saturating_sub(1);
+    let newest = pool.updates[last];
+    pool.updates[last] = Update::blank();
+    pool.length = last;
+    newest.previous
 }
 
-fn shorter(a: usize, b: usize) -> usize
-    ensures { result ≡ min a b }
+// Undoes the newest entry, whose variable `was`: a bound that moved left an update, and a not-equal a hole.
+fn undo(store: &mut Assignments, entry: Entry, was: Variable)
+    requires sound { Sound store.old }
+    requires some { 0 < store.old.trail.length }
+    requires named { entry.predicate.domain.0 < 256 }
+    ensures { store.new ≡ undone_by store.old entry was }
 {
-    if a < b { a } else { b }
-}
-
-// The place of the newest of `length` things; 0 where there is none, as any place will do then.
-fn newest(length: usize) -> usize
-    ensures { result ≡ length - 1 }
-{
-    if length == 0 { 0 } else { length - 1 }
-}
-
-// `count` less `by`, and 0 where that would fall below 0, as the meaning has it: so no proof need show that it never does.
-fn less(count: u64, by: u64) -> u64
-    ensures { result ≡ count - by }
-{
-    if count < by { 0 } else { count - by }
-}
-
-fn differ(a: i32, b: i32) -> bool
-    ensures { result ≡ differs a b }
-{
-    a != b
-}
-
-// What undoing an entry takes from the histories: an update of the lower bound, one of the upper bound, a hole.
-#[derive(Clone, Copy)]
-struct Traces {
-    lower: bool,
-    upper: bool,
-    hole: bool,
-}
-
-// A bound that moved left an update, and a not-equal a hole.
-fn traces_left(entry: Entry, was: Variable) -> Traces
-    ensures { result ≡ traces_of entry was.bounds }
-{
+    let last = store.trail.length - 1;
+    store.trail.entries[last] = Entry::blank();
+    store.trail.length = last;
     let old = entry.old;
     let now = was.bounds;
-    let predicate = entry.predicate;
-    let kind = predicate.kind;
-    Traces {
-        lower: differ(old.lower, now.lower),
-        upper: differ(old.upper, now.upper),
-        hole: is_not_equal_predicate(kind),
+    let kind = entry.predicate.kind;
+    let lower = take_if(&mut store.lower, old.lower != now.lower, was.lower);
+    let upper = take_if(&mut store.upper, old.upper != now.upper, was.upper);
+    let holes = take_if(&mut store.holes, is_not_equal_predicate(kind), was.holes);
+    store.variables[entry.predicate.domain.0 as usize] = Variable {
+        bounds: old,
+        lower,
+        upper,
+        holes,
+        ..was
+    };
+    store.pruned = store.pruned.saturating_sub(domains::pruned(kind, old, now));
+}
+
+// The lent slices, and how many pairs are written to them.
+#[derive(Drop)]
+struct Pairs<'a> {
+    variables: &'a mut [u16],
+    lowers: &'a mut [i32],
+    number: usize,
+}
+
+impl Pairs<'_> {
+    // Both slices must have room for a pair.
+    fn room(&self) -> usize
+        ensures { result ≡ room_of self.now.variables.now self.now.lowers.now }
+    {
+        self.variables.len().min(self.lowers.len())
     }
-}
 
-// What an entry added to the count.
-fn pruned(entry: Entry, was: Variable) -> u64
-    ensures { result ≡ pruned_by entry.predicate.kind entry.old was.bounds }
-{
-    let predicate = entry.predicate;
-    let kind = predicate.kind;
-    domains::pruned(kind, entry.old, was.bounds)
-}
-
-// The place of a pool's newest update after an undo: blank if the update goes.
-fn place(newest: Update, goes: bool) -> Update
-    ensures { result ≡ pick goes no_update newest }
-{
-    if goes { Update::blank() } else { newest }
-}
-
-// A pool's length after an undo.
-fn shortened(length: usize, goes: bool) -> usize
-    ensures { result ≡ pick goes (length - 1) length }
-{
-    if goes { newest(length) } else { length }
-}
-
-// A variable's link after an undo: from its newest update on, if that goes.
-fn link(newest: Update, goes: bool, now: u16) -> u16
-    ensures { result ≡ pick goes newest.previous now }
-{
-    if goes { newest.previous } else { now }
-}
-
-// The variable before the entry: the old bounds, and links without the updates that go.
-fn before(
-    mut was: Variable,
-    entry: Entry,
-    taken: Traces,
-    lower: Update,
-    upper: Update,
-    hole: Update,
-) -> Variable
-    ensures { result ≡ variable_before was entry taken lower upper hole }
-{
-    let old = entry.old;
-    was.bounds = old;
-    was.lower = link(lower, taken.lower, was.lower);
-    was.upper = link(upper, taken.upper, was.upper);
-    was.holes = link(hole, taken.hole, was.holes);
-    was
-}
-
-// Appends the pair of an undone entry, whose variable `was`, if its bounds then differ. Gives the number of pairs.
-fn append(
-    variables: &mut [u16],
-    lowers: &mut [i32],
-    pairs: usize,
-    entry: Entry,
-    was: Variable,
-) -> usize
-    requires { (pairs < length variables.old) × (pairs < length lowers.old) }
-    ensures { Appended entry was pairs variables.old lowers.old result variables.new lowers.new }
-{
-    let old = entry.old;
-    let now = was.bounds;
-    let lower = now.lower;
-    let predicate = entry.predicate;
-    if differ(old.lower, old.upper) {
-        variables[pairs] = predicate.domain.0;
-        lowers[pairs] = lower;
-        return pairs + 1;
+    // Appends the pair of an undone entry, whose variable `was`, if its bounds then differ.
+    fn append(&mut self, entry: Entry, was: Variable)
+        requires { self.old.number < room_of self.old.variables.now self.old.lowers.now }
+        ensures appended { Appended entry was self.old.number self.old.variables.now self.old.lowers.now self.new.number self.new.variables.now self.new.lowers.now }
+        ensures same_variables { self.new.variables.ghost_name ≡ self.old.variables.ghost_name }
+        ensures same_lowers { self.new.lowers.ghost_name ≡ self.old.lowers.ghost_name }
+    {
+        if entry.old.lower != entry.old.upper {
+            self.variables[self.number] = entry.predicate.domain.0;
+            self.lowers[self.number] = was.bounds.lower;
+            self.number += 1;
+        }
     }
-    pairs
 }
 
 // Goes back to a lower checkpoint: the entries above it are undone, newest first, and the pair of each whose variable's
-// bounds then differ is written to the lent slices. The pools are taken out of the store once, and a turn of the loop
-// writes single places of them, so that a long way back copies the store no more often than a short one.
+// bounds then differ is written to the lent slices. A turn of the loop writes single places of the store where it stands,
+// so that a long way back copies the store no more often than a short one.
 pub fn synchronise(
     mut store: Assignments,
     checkpoint: Checkpoint,
@@ -192,57 +129,28 @@ pub fn synchronise(
             store,
         };
     }
-    let mut left = store.trail.length - store.delimiters[back] as usize;
-    if shorter(variables.len(), lowers.len()) < left {
+    let above = store.trail.length - store.delimiters[back] as usize;
+    let mut pairs = Pairs {
+        variables,
+        lowers,
+        number: 0,
+    };
+    if pairs.room() < above {
         return Called {
             answer: Err(Refusal::NoRoom),
             store,
         };
     }
-    let blank = Entry::blank();
-    let mut trail = store.trail;
-    let mut lower = store.lower;
-    let mut upper = store.upper;
-    let mut holes = store.holes;
-    let mut held = store.variables;
-    let mut count = store.pruned;
-    let mut pairs: usize = 0;
-    while 0 < left {
-        left -= 1;
-        let last = trail.length - 1;
-        let entry = trail.entries[last];
-        trail.entries[last] = blank;
-        trail.length = last;
-        let predicate = entry.predicate;
-        let at = predicate.domain.0 as usize;
-        let was = held[at];
-        let taken = traces_left(entry, was);
-        let lower_at = newest(lower.length);
-        let lower_top = lower.updates[lower_at];
-        lower.updates[lower_at] = place(lower_top, taken.lower);
-        lower.length = shortened(lower.length, taken.lower);
-        let upper_at = newest(upper.length);
-        let upper_top = upper.updates[upper_at];
-        upper.updates[upper_at] = place(upper_top, taken.upper);
-        upper.length = shortened(upper.length, taken.upper);
-        let hole_at = newest(holes.length);
-        let hole_top = holes.updates[hole_at];
-        holes.updates[hole_at] = place(hole_top, taken.hole);
-        holes.length = shortened(holes.length, taken.hole);
-        held[at] = before(was, entry, taken, lower_top, upper_top, hole_top);
-        count = less(count, pruned(entry, was));
-        pairs = append(variables, lowers, pairs, entry, was);
+    for _undone in 0..above {
+        let entry = store.trail.entries[store.trail.length - 1];
+        let was = store.variables[entry.predicate.domain.0 as usize];
+        undo(&mut store, entry, was);
+        pairs.append(entry, was);
     }
-    store.trail = trail;
-    store.lower = lower;
-    store.upper = upper;
-    store.holes = holes;
-    store.variables = held;
-    store.delimiters = cut(store.delimiters, back, current);
+    store.delimiters[back..current].fill(0);
     store.checkpoint = back;
-    store.pruned = count;
     Called {
-        answer: Ok(pairs),
+        answer: Ok(pairs.number),
         store,
     }
 }
