@@ -37,12 +37,11 @@ fn enter(trail: &mut Trail, predicate: Predicate, old: Bounds)
     requires { trail.old.length < 1024 }
     ensures { trail.new ≡ entered trail.old (without_reason predicate old) }
 {
-    trail.entries[trail.length] = Entry {
+    trail.push(Entry {
         predicate,
         old,
         reason: Reason::None,
-    };
-    trail.length += 1;
+    });
 }
 
 // Lays the next variable down: its two entries, an update for each bound, and its record.

@@ -1,6 +1,6 @@
 -- What a decision tells of the store that it was read from: `decision` tests in the order of `post_grounds`, so each of its cases is one
 -- case of a post. For `post_predicate`, and for a caller that keeps the store. Assumes nothing.
-use Rattle.std.specs.Prelude.{Option, Some, None, Result, Ok, Err}
+use Rattle.std.specs.Prelude.{None, Ok, Err}
 use Prim.Native.Nat.{◌<◌}
 use mathlib.Core.Bool.{Bool, true, false, not}
 use mathlib.Core.Path.{◌≡◌, refl, sym, ap, subst}
@@ -8,31 +8,21 @@ use lib.Dec.{leb}
 use borrow.Author.Tests.{leb-true, leb-false, not-true, not-false}
 use Rattle.predicates.specs.declared.Predicate.{Predicate}
 use Rattle.predicates.specs.declared.Reason.{Reason}
-use Rattle.domains.specs.declared.Bounds.{Bounds}
 use Rattle.domains.specs.Choice.{pick}
 use Rattle.domains.specs.Domain.{overflows, emptied}
 use Rattle.domains.proofs.Tests.{by_cases, picked}
 use Rattle.rules.specs.Sound.{domain_in, Sound}
 use Rattle.stores.specs.declared.Variable.{Variable}
 use Rattle.stores.specs.declared.Assignments.{Assignments}
-use Rattle.stories.specs.declared.Refusal.{Refusal}
 use Rattle.stories.specs.declared.Refusal.TheVariants.{Empty}
 use Rattle.stores.specs.Store.{variable_of, domain_of}
-use Rattle.stores.specs.Calls.{domain_before, bounds_after, does, post_answer, post_store}
+use Rattle.stores.specs.Calls.{domain_before, does, post_answer, post_store}
 use Rattle.stores.proofs.Cases.{post_absent, post_idle, post_full, post_overflows}
 use Rattle.stores.specs.Made.{Made}
 use Rattle.stores.proofs.History.{straight}
 use Rattle.stores.proofs.Straight.{tidy}
 use Rattle.stores.proofs.Steps.{tight_of, fits_of}
-use Rattle.posting.specs.Decision.{decision}
-
--- a post that is to be recorded: there is the variable, something is to be done, there is room, nothing overflows, and where the bounds go
-pub record Recordable (s : Assignments) (p : Predicate) (to : Bounds) : Type 0 where
-  pub there : p.domain.0 < s.domains
-  pub acting : does s p ≡ true
-  pub room : s.trail.length < 1024
-  pub fitting : overflows p.kind p.value (domain_before s p) ≡ false
-  pub aimed : to ≡ bounds_after s p
+use Rattle.posting.specs.Decision.{decision, Tells}
 
 -- the record `w` is that of the predicate's variable, if there is one
 module _ (s : Assignments) (q : Made s) (p : Predicate) (w : Variable) (own : p.domain.0 < s.domains → w ≡ variable_of s p.domain.0) where
@@ -43,30 +33,24 @@ module _ (s : Assignments) (q : Made s) (p : Predicate) (w : Variable) (own : p.
       subst (λ (v : Variable). Sound (domain_in s.holes v.holes v.bounds)) (sym (own there))
       (record { tight = tight_of s (straight q) p.domain.0 there; fits = fits_of s (straight q) p.domain.0 there })
 
-  -- what each decision tells
-  abbrev Tells : Result (Option Bounds) Refusal → Type 0
-  Tells (Err e) = (r : Reason) → (Err e ≡ post_answer s p) × (s ≡ post_store s p r)
-  Tells (Ok None) = (r : Reason) → (Ok false ≡ post_answer s p) × (s ≡ post_store s p r)
-  Tells (Ok (Some to)) = Recordable s p to
-
   -- a post that does nothing tells the same of both answers
-  idles : ((r : Reason) → (pick (emptied (domain_before s p)) (Err Empty) (Ok false) ≡ post_answer s p) × (s ≡ post_store s p r)) → Tells (pick (emptied (domain_before s p)) (Err Empty) (Ok None))
+  idles : ((r : Reason) → (pick (emptied (domain_before s p)) (Err Empty) (Ok false) ≡ post_answer s p) × (s ≡ post_store s p r)) → Tells s p (pick (emptied (domain_before s p)) (Err Empty) (Ok None))
   idles told = go (emptied (domain_before s p)) told
     where
-      go : (b : Bool) → ((r : Reason) → (pick b (Err Empty) (Ok false) ≡ post_answer s p) × (s ≡ post_store s p r)) → Tells (pick b (Err Empty) (Ok None))
+      go : (b : Bool) → ((r : Reason) → (pick b (Err Empty) (Ok false) ≡ post_answer s p) × (s ≡ post_store s p r)) → Tells s p (pick b (Err Empty) (Ok None))
       go true h = h
       go false h = h
 
-  of_own : Tells (decision (variable_of s p.domain.0) s.domains s.holes s.trail.length p)
+  of_own : Tells s p (decision (variable_of s p.domain.0) s.domains s.holes s.trail.length p)
   unfolding decision domain_of
   of_own =
-      picked Tells (leb s.domains p.domain.0) (λ absent r. post_absent s p r (leb-true _ _ absent))
+      picked (Tells s p) (leb s.domains p.domain.0) (λ absent r. post_absent s p r (leb-true _ _ absent))
       (λ some. let there = leb-false s.domains p.domain.0 some in
-      picked Tells (not (does s p)) (λ idle. idles (λ r. post_idle s p r there (not-true (does s p) idle) (tidy (straight q)).entries))
+      picked (Tells s p) (not (does s p)) (λ idle. idles (λ r. post_idle s p r there (not-true (does s p) idle) (tidy (straight q)).entries))
       (λ acts. let acting = not-false (does s p) acts in
-      picked Tells (leb 1024 s.trail.length) (λ full r. post_full s p r there acting (leb-true _ _ full))
+      picked (Tells s p) (leb 1024 s.trail.length) (λ full r. post_full s p r there acting (leb-true _ _ full))
       (λ free. let room = leb-false 1024 s.trail.length free in
-      picked Tells (overflows p.kind p.value (domain_before s p)) (λ over r. post_overflows s p r there acting room over)
+      picked (Tells s p) (overflows p.kind p.value (domain_before s p)) (λ over r. post_overflows s p r there acting room over)
       (λ fitting. record { there = there; acting = acting; room = room; fitting = fitting; aimed = refl }))))
 
   -- where there is no variable the record is not read
@@ -76,14 +60,5 @@ module _ (s : Assignments) (q : Made s) (p : Predicate) (w : Variable) (own : p.
       by_cases (leb s.domains p.domain.0) (λ absent. rw absent)
       (λ some. ap (λ (v : Variable). decision v s.domains s.holes s.trail.length p) (sym (own (leb-false _ _ some))))
 
-  tells : Tells (decision w s.domains s.holes s.trail.length p)
-  tells = subst Tells reads_own of_own
-
-  pub refused_tells : (r : Reason) (e : Refusal) → decision w s.domains s.holes s.trail.length p ≡ Err e → (Err e ≡ post_answer s p) × (s ≡ post_store s p r)
-  refused_tells r e is = subst Tells is tells r
-
-  pub idle_tells : (r : Reason) → decision w s.domains s.holes s.trail.length p ≡ Ok None → (Ok false ≡ post_answer s p) × (s ≡ post_store s p r)
-  idle_tells r is = subst Tells is tells r
-
-  pub moves_tell : (to : Bounds) → decision w s.domains s.holes s.trail.length p ≡ Ok (Some to) → Recordable s p to
-  moves_tell to is = subst Tells is tells
+  pub tells : Tells s p (decision w s.domains s.holes s.trail.length p)
+  tells = subst (Tells s p) reads_own of_own

@@ -3,9 +3,10 @@
 
 ghost use Rattle.std.specs.Prelude.{◌≡◌, ◌<◌};
 ghost use Rattle.rules.specs.Sound.{domain_in, Sound};
-ghost use Rattle.stores.specs.Calls.{post_answer, post_store};
+ghost use Rattle.stores.specs.Store.{push_if, link_if};
+ghost use Rattle.stores.specs.Calls.{posted, post_answer, post_store};
 ghost use Rattle.stores.specs.Made.{Made};
-ghost use Rattle.posting.specs.Decision.{decision, unless_emptied, if_room};
+ghost use Rattle.posting.specs.Decision.{decision, unless_emptied, if_room, Recordable, Tells};
 
 use domains::{Bounds, Step, is_not_equal_predicate, pruned};
 use pools::{Pool, Update};
@@ -63,85 +64,104 @@ pub fn decide(
     }
 }
 
-// Makes the predicate part of the store. What it comes to is decided on small values; then one entry is recorded, with
-// an update for each bound that moves and a hole for a removed value. Each arm returns, as an arm's value would be one
-// more copy of the store.
+// What a post to a lent store comes to.
+pub fn consider(store: &Assignments, predicate: Predicate) -> Result<Option<Bounds>, Refusal>
+    requires { Made store.now }
+    ensures { Tells store.now predicate result }
+{
+    let x = predicate.domain.0 as usize;
+    // `decide` tests this too, but is handed the record
+    if store.domains <= x {
+        return Err(Refusal::NoVariable);
+    }
+    let entries = store.trail.length;
+    decide(
+        store.variables[x],
+        store.domains,
+        store.holes,
+        entries,
+        predicate,
+    )
+}
+
+// Adds an update to a pool, where there is one. Gives the variable's link: to that update then, and else as it was.
+fn add_if(pool: &mut Pool, happened: bool, update: Update) -> u16
+    requires { pool.old.length < 1024 }
+    ensures rest { pool.new ≡ push_if happened pool.old update }
+    ensures link { result ≡ link_if happened pool.old update.previous }
+{
+    if !happened {
+        return update.previous;
+    }
+    *pool = pool.push(update);
+    pool.length as u16
+}
+
+// Records a post that does something: its entry, an update for each bound that moves, a hole for a removed value, and the
+// variable's new bounds.
+fn record(store: &mut Assignments, predicate: Predicate, reason: Reason, to: Bounds)
+    requires made { Made store.old }
+    requires recordable { Recordable store.old predicate to }
+    ensures { store.new ≡ posted store.old predicate reason }
+{
+    let x = predicate.domain.0 as usize;
+    let was = store.variables[x];
+    let from = was.bounds;
+    let position = TrailPosition(store.trail.length as u16);
+    store.trail.push(Entry {
+        predicate,
+        old: from,
+        reason,
+    });
+    let lower = add_if(
+        &mut store.lower,
+        from.lower != to.lower,
+        Update {
+            value: to.lower,
+            position,
+            previous: was.lower,
+        },
+    );
+    let upper = add_if(
+        &mut store.upper,
+        from.upper != to.upper,
+        Update {
+            value: to.upper,
+            position,
+            previous: was.upper,
+        },
+    );
+    let holes = add_if(
+        &mut store.holes,
+        is_not_equal_predicate(predicate.kind),
+        Update {
+            value: predicate.value,
+            position,
+            previous: was.holes,
+        },
+    );
+    store.variables[x] = Variable {
+        bounds: to,
+        lower,
+        upper,
+        holes,
+        ..was
+    };
+    store.pruned += pruned(predicate.kind, from, to);
+}
+
+// Makes the predicate part of the store. What it comes to is decided on small values; then one entry is recorded.
 pub fn post_predicate(mut store: Assignments, predicate: Predicate, reason: Reason) -> Called<bool>
     requires { Made store }
     ensures { (result.answer ≡ post_answer store predicate) × (result.store ≡ post_store store predicate reason) }
 {
-    let x = predicate.domain.0 as usize;
-    let domains = store.domains;
-    // `decide` tests this too, but is handed the record
-    if domains <= x {
-        return Called {
-            store,
-            answer: Err(Refusal::NoVariable),
-        };
-    }
-    let was = store.variables[x];
-    let holes = store.holes;
-    let at = store.trail.length;
-    match decide(was, domains, holes, at, predicate) {
-        Err(refusal) => {
-            return Called {
-                store,
-                answer: Err(refusal),
-            };
-        }
-        Ok(None) => {
-            return Called {
-                store,
-                answer: Ok(false),
-            };
-        }
+    let answer = match consider(&store, predicate) {
+        Err(refusal) => Err(refusal),
+        Ok(None) => Ok(false),
         Ok(Some(to)) => {
-            let from = was.bounds;
-            let kind = predicate.kind;
-            let mut trail = store.trail;
-            trail.entries[at] = Entry {
-                predicate,
-                old: from,
-                reason,
-            };
-            trail.length = at + 1;
-            store.trail = trail;
-            let position = TrailPosition(at as u16);
-            let mut now = was;
-            now.bounds = to;
-            if from.lower != to.lower {
-                let lower = store.lower;
-                now.lower = (lower.length + 1) as u16;
-                let raised = lower.push(Update {
-                    value: to.lower,
-                    position,
-                    previous: was.lower,
-                });
-                store.lower = raised;
-            }
-            if from.upper != to.upper {
-                let upper = store.upper;
-                now.upper = (upper.length + 1) as u16;
-                let lowered = upper.push(Update {
-                    value: to.upper,
-                    position,
-                    previous: was.upper,
-                });
-                store.upper = lowered;
-            }
-            if is_not_equal_predicate(kind) {
-                now.holes = (holes.length + 1) as u16;
-                let removed = holes.push(Update {
-                    value: predicate.value,
-                    position,
-                    previous: was.holes,
-                });
-                store.holes = removed;
-            }
-            store.variables[x] = now;
-            store.pruned = store.pruned + pruned(kind, from, to);
-            let answer = unless_emptied(to, true);
-            return Called { store, answer };
+            record(&mut store, predicate, reason, to);
+            unless_emptied(to, true)
         }
-    }
+    };
+    Called { store, answer }
 }

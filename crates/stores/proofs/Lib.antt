@@ -1,3 +1,4 @@
+pub mod Moved
 pub mod Straight
 pub mod Undo
 pub mod Meaning

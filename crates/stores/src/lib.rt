@@ -2,8 +2,8 @@
 // in specs/, and what every store obeys that calls made. Relies on predicates, domains and pools.
 #![tactic(auto)]
 
-ghost use Rattle.std.specs.Prelude.{◌≡◌};
-ghost use Rattle.stores.specs.Store.{no_variable};
+ghost use Rattle.std.specs.Prelude.{◌≡◌, ◌<◌};
+ghost use Rattle.stores.specs.Store.{no_variable, entered};
 ghost use Rattle.stores.specs.Calls.{fresh, entry_answer};
 ghost use Rattle.stores.specs.Made.{Made};
 
@@ -43,6 +43,17 @@ pub struct Assignments {
     pub delimiters: [u16; 256],
     pub checkpoint: usize,
     pub pruned: u64,
+}
+
+impl Trail {
+    // One entry more.
+    pub fn push(&mut self, entry: Entry)
+        requires { self.old.length < 1024 }
+        ensures { self.new ≡ entered self.old entry }
+    {
+        self.entries[self.length] = entry;
+        self.length += 1;
+    }
 }
 
 impl Variable {
