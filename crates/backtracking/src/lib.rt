@@ -97,9 +97,7 @@ impl Pairs<'_> {
     // Appends the pair of an undone entry, whose variable `was`, if its bounds then differ.
     fn append(&mut self, entry: Entry, was: Variable)
         requires { self.old.number < room_of self.old.variables.now self.old.lowers.now }
-        ensures appended { Appended entry was self.old.number self.old.variables.now self.old.lowers.now self.new.number self.new.variables.now self.new.lowers.now }
-        ensures same_variables { self.new.variables.ghost_name ≡ self.old.variables.ghost_name }
-        ensures same_lowers { self.new.lowers.ghost_name ≡ self.old.lowers.ghost_name }
+        ensures { Appended entry was self.old self.new }
     {
         if entry.old.lower != entry.old.upper {
             self.variables[self.number] = entry.predicate.domain.0;

@@ -32,27 +32,20 @@ returns-then-room-above c =
     refused a.store a.checkpoint.0 a.variables.now a.lowers.now NoRoom (synchronise_short a.store a.checkpoint.0 (room_of a.variables.now a.lowers.now) c.if-current-back.false (omega arith))
 
 pub loop-undone-init : goal.loop-undone-init
-loop-undone-init c = record {
-  going = start c.args.store _ c.args.variables.now c.args.lowers.now (sound c.requires) (omega arith) (omega arith);
-  same_variables = refl;
-  same_lowers = refl;
-}
+loop-undone-init c = start c.args.store _ _ refl (sound c.requires) (omega arith) (omega arith)
 
 pub loop-undone-preserved : goal.loop-undone-preserved
-loop-undone-preserved c = record {
-  going = turn c.loop-undone.invariant.going (omega arith) c.undo.ensures c.append.ensures.appended;
-  same_variables = search rules;
-  same_lowers = search rules;
-}
+loop-undone-preserved c = turn c.loop-undone.invariant (omega arith) c.undo.ensures c.append.ensures
 
 pub slice_bounds-fill-end : goal.slice_bounds-fill-end
 slice_bounds-fill-end c =
     let t = tidy (straight c.requires) in
-    rw c.loop-undone.invariant.going.delimiters (omega (arith, t.long_delimiters, t.checkpoints))
+    rw c.loop-undone.invariant.delimiters (omega (arith, t.long_delimiters, t.checkpoints))
 
 pub returns : goal.returns
 returns c =
     let a = c.args in
     let t = tidy (straight c.requires) in
+    let g = c.loop-undone.invariant in
     let cells = filled (a.store.checkpoint - a.checkpoint.0) a.store.delimiters a.checkpoint.0 (omega (arith, t.long_delimiters, t.checkpoints)) in
-    reached a.store a.checkpoint.0 a.variables.now a.lowers.now c.if-current-back.false (omega arith) c.loop-undone.invariant.going (omega arith) (rw (c.fill.ensures.after (λ y e. e), c.loop-undone.invariant.going.delimiters) cells) (search rules) (search rules)
+    reached a.store a.checkpoint.0 _ c.if-current-back.false (omega arith) g (omega arith) (rw (c.fill.ensures.after (λ y e. e), g.delimiters) cells) (search (rules, g.same_variables)) (search (rules, g.same_lowers))

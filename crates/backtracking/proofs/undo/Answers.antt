@@ -1,20 +1,8 @@
 -- `undo` takes from each history what the entry left there, and puts the variable back as it was before the entry.
-use Rattle.std.proofs.Common.{rules, ℕ, ◌≡◌, ◌-◌, Bool, true, false, not, eqb, ℤ, ◌∙◌, refl, ap, set, w32, of_z, SFits}
-use borrow.Author.Tests.{eqb-true, eqb-false}
-use Rattle.integers.proofs.Order.{integers, bits_eq}
-use Rattle.integers.specs.Integers.{eq_z}
-use Rattle.stores.specs.Store.{pop_if, back_if, undone_by, differs}
+use Rattle.std.proofs.Common.{rules, ℕ, ◌-◌, Bool, ◌∙◌, ap, set}
+use Rattle.stores.specs.Store.{pop_if, back_if, undone_by}
+use Rattle.stores.proofs.Moved.{tested}
 use Rattle.backtracking.proofs.undo.Goals as goal
-
--- the code tests the bits of two bounds
-tested : (a b : ℤ) → SFits w32 a → SFits w32 b → not (eqb (of_z w32 a) (of_z w32 b)) ≡ differs a b
-tested a b f g = ap not (both (eqb (of_z w32 a) (of_z w32 b)) (eq_z a b) refl refl)
-  where
-    both : (s t : Bool) → eqb (of_z w32 a) (of_z w32 b) ≡ s → eq_z a b ≡ t → s ≡ t
-    both true true p q = refl
-    both true false p q = let same : a ≡ b = bits_eq f g (eqb-true _ _ p) in absurd (omega integers)
-    both false true p q = let same : a ≡ b = omega integers in absurd (eqb-false _ _ p (ap (of_z w32) same))
-    both false false p q = refl
 
 pub returns : goal.returns
 unfolding undone_by
