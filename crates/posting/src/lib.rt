@@ -11,6 +11,7 @@ ghost use Rattle.posting.specs.Decision.{decision, unless_emptied, if_room, Reco
 use domains::{Bounds, Step, is_not_equal_predicate, pruned};
 use pools::{Pool, Update};
 use predicates::{Predicate, PredicateType, Reason, TrailPosition};
+use rules::StoredDomain;
 use stores::{Assignments, Called, Variable};
 use stories::{Entry, Refusal};
 
@@ -57,7 +58,8 @@ pub fn decide(
     }
     let bounds = variable.bounds;
     let kind = predicate.kind;
-    match rules::step(holes, variable.holes, bounds, kind, predicate.value) {
+    let domain = StoredDomain::new(holes, variable.holes, bounds);
+    match domain.step(kind, predicate.value) {
         Step::Nothing => unless_emptied(bounds, None),
         Step::Overflows => if_room(entries, Err(Refusal::StepOverflow)),
         Step::Moves(to) => if_room(entries, Ok(Some(to))),

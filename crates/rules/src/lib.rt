@@ -1,130 +1,158 @@
 // What a post comes to, decided on small values before anything is recorded: the four ways in which Pumpkin changes a
-// domain. Relies on predicates, domains and pools; the store is not known here.
+// domain. Relies on integers, predicates, domains and pools; the store is not known here.
 #![tactic(auto)]
 
-ghost use Rattle.std.specs.Prelude.{◌≡◌};
-ghost use Rattle.domains.specs.Domain.{step_of};
+ghost use Rattle.std.specs.Prelude.{◌≡◌, ◌||◌, true, ◌<ℤ◌};
+ghost use Rattle.integers.specs.Integers.{eq_z};
+ghost use Rattle.domains.specs.Domain.{Domain, has, raised, lowered, step_of};
+ghost use Rattle.domains.specs.Limits.{first, last};
 ghost use Rattle.rules.specs.Sound.{domain_in, Sound};
 
 use domains::{Bounds, Step};
 use pools::Pool;
 use predicates::PredicateType;
+use std::marker::Model;
 
-fn tighten_lower_bound(holes: Pool, newest: u16, bounds: Bounds, value: i32) -> Step
-    requires { Sound (domain_in holes newest bounds) }
-    ensures { result ≡ step_of PredicateType.LowerBound value (domain_in holes newest bounds) }
-{
-    let lower = bounds.lower;
-    let upper = bounds.upper;
-    if lower < value {
-        let raised = holes.step_up(newest, upper, value);
-        return Step::Moves(Bounds {
-            lower: raised, // `value` may be a hole
-            upper,
-        });
-    }
-    Step::Nothing
+// A variable's domain as the store keeps it: its bounds, and its holes, which the pool has from the newest back. The bounds
+// are the least and the greatest value left.
+#[derive(Drop)]
+pub struct StoredDomain {
+    holes: Pool,
+    newest: u16,
+    bounds: Bounds,
 }
 
-fn tighten_upper_bound(holes: Pool, newest: u16, bounds: Bounds, value: i32) -> Step
-    requires { Sound (domain_in holes newest bounds) }
-    ensures { result ≡ step_of PredicateType.UpperBound value (domain_in holes newest bounds) }
-{
-    let lower = bounds.lower;
-    let upper = bounds.upper;
-    if value < upper {
-        let lowered = holes.step_down(newest, lower, value);
-        return Step::Moves(Bounds {
-            lower,
-            upper: lowered, // `value` may be a hole
-        });
-    }
-    Step::Nothing
+impl Model for StoredDomain {
+    ghost Value = { Domain };
+
+    ghost view = { λ d. domain_in d.holes d.newest d.bounds };
+
+    ghost invariant = { λ d. Sound (domain_in d.holes d.newest d.bounds) };
 }
 
-fn make_assignment(holes: Pool, newest: u16, bounds: Bounds, value: i32) -> Step
-    requires { Sound (domain_in holes newest bounds) }
-    ensures { result ≡ step_of PredicateType.Equal value (domain_in holes newest bounds) }
-{
-    let lower = bounds.lower;
-    let upper = bounds.upper;
-    if lower < value {
-        let raised = holes.step_up(newest, upper, value);
+impl StoredDomain {
+    pub fn new(holes: Pool, newest: u16, bounds: Bounds) -> Self
+        requires { Sound (domain_in holes newest bounds) }
+        ensures { result ≡ domain_in holes newest bounds }
+    {
+        StoredDomain {
+            holes,
+            newest,
+            bounds,
+        }
+    }
+
+    // Where the lower bound comes to rest if it becomes `value`, which may be a hole.
+    fn raised(&self, value: i32) -> i32
+        ensures { result ≡ raised self.now.holes self.now.upper value }
+    {
+        self.holes.step_up(self.newest, self.bounds.upper, value)
+    }
+
+    // Where the upper bound comes to rest above `lower` if it becomes `value`, which may be a hole.
+    fn lowered(&self, lower: i32, value: i32) -> i32
+        requires { has self.now.holes lower ≡ true → first <ℤ lower }
+        ensures { result ≡ lowered self.now.holes lower value }
+    {
+        self.holes.step_down(self.newest, lower, value)
+    }
+
+    fn tighten_lower_bound(&self, value: i32) -> Step
+        ensures { result ≡ step_of PredicateType.LowerBound value self.now }
+    {
+        let Bounds { lower, upper } = self.bounds;
+        if lower < value {
+            return Step::Moves(Bounds {
+                lower: self.raised(value),
+                upper,
+            });
+        }
+        Step::Nothing
+    }
+
+    fn tighten_upper_bound(&self, value: i32) -> Step
+        ensures { result ≡ step_of PredicateType.UpperBound value self.now }
+    {
+        let Bounds { lower, upper } = self.bounds;
         if value < upper {
-            let lowered = holes.step_down(newest, raised, value);
+            return Step::Moves(Bounds {
+                lower,
+                upper: self.lowered(lower, value),
+            });
+        }
+        Step::Nothing
+    }
+
+    // Raises the lower bound first, so that the upper bound is lowered no further than to where that came to rest.
+    fn make_assignment(&self, value: i32) -> Step
+        ensures { result ≡ step_of PredicateType.Equal value self.now }
+    {
+        let Bounds { lower, upper } = self.bounds;
+        if lower < value {
+            let raised = self.raised(value);
+            if value < upper {
+                return Step::Moves(Bounds {
+                    lower: raised,
+                    upper: self.lowered(raised, value),
+                });
+            }
             return Step::Moves(Bounds {
                 lower: raised,
-                upper: lowered,
+                upper,
             });
         }
-        return Step::Moves(Bounds {
-            lower: raised,
-            upper,
-        });
-    }
-    if value < upper {
-        let lowered = holes.step_down(newest, lower, value);
-        return Step::Moves(Bounds {
-            lower,
-            upper: lowered,
-        });
-    }
-    Step::Nothing
-}
-
-fn remove_value_from_domain(holes: Pool, newest: u16, bounds: Bounds, value: i32) -> Step
-    requires { Sound (domain_in holes newest bounds) }
-    ensures { result ≡ step_of PredicateType.NotEqual value (domain_in holes newest bounds) }
-{
-    let lower = bounds.lower;
-    let upper = bounds.upper;
-    if value < lower {
-        return Step::Nothing;
-    }
-    if upper < value {
-        return Step::Nothing;
-    }
-    if holes.contains(newest, value) {
-        return Step::Nothing;
-    }
-    if value == lower {
-        if value == upper {
-            if value == 2147483647 {
-                return Step::Overflows;
-            }
-            if value == -2147483648 {
-                return Step::Overflows;
-            }
+        if value < upper {
             return Step::Moves(Bounds {
+                lower,
+                upper: self.lowered(lower, value),
+            });
+        }
+        Step::Nothing
+    }
+
+    // Each bound that is the value steps away from it. Where both are, they pass each other, and there is no i32 past the
+    // first or the last.
+    fn remove_value_from_domain(&self, value: i32) -> Step
+        ensures { result ≡ step_of PredicateType.NotEqual value self.now }
+    {
+        let Bounds { lower, upper } = self.bounds;
+        if value < lower || upper < value || self.holes.contains(self.newest, value) {
+            return Step::Nothing;
+        }
+        match (value == lower, value == upper) {
+            (true, true) if is_outermost(value) => Step::Overflows,
+            (true, true) => Step::Moves(Bounds {
                 lower: value + 1,
                 upper: value - 1,
-            });
+            }),
+            (true, false) => Step::Moves(Bounds {
+                lower: self.raised(value + 1),
+                upper,
+            }),
+            (false, true) => Step::Moves(Bounds {
+                lower,
+                upper: self.lowered(lower, value - 1),
+            }),
+            (false, false) => Step::Moves(self.bounds),
         }
-        let raised = holes.step_up(newest, upper, value + 1);
-        return Step::Moves(Bounds {
-            lower: raised,
-            upper,
-        });
     }
-    if value == upper {
-        let lowered = holes.step_down(newest, lower, value - 1);
-        return Step::Moves(Bounds {
-            lower,
-            upper: lowered,
-        });
+
+    // What a post of this kind and value comes to.
+    pub fn step(&self, kind: PredicateType, value: i32) -> Step
+        ensures { result ≡ step_of kind value self.now }
+    {
+        match kind {
+            PredicateType::LowerBound => self.tighten_lower_bound(value),
+            PredicateType::NotEqual => self.remove_value_from_domain(value),
+            PredicateType::Equal => self.make_assignment(value),
+            PredicateType::UpperBound => self.tighten_upper_bound(value),
+        }
     }
-    Step::Moves(bounds)
 }
 
-// What a post of this kind and value comes to, for the variable with these bounds and with these holes, newest first.
-pub fn step(holes: Pool, newest: u16, bounds: Bounds, kind: PredicateType, value: i32) -> Step
-    requires { Sound (domain_in holes newest bounds) }
-    ensures { result ≡ step_of kind value (domain_in holes newest bounds) }
+// Whether it is the first or the last i32, so that there is none past it.
+fn is_outermost(value: i32) -> bool
+    ensures { result ≡ (eq_z value last || eq_z value first) }
 {
-    match kind {
-        PredicateType::LowerBound => tighten_lower_bound(holes, newest, bounds, value),
-        PredicateType::NotEqual => remove_value_from_domain(holes, newest, bounds, value),
-        PredicateType::Equal => make_assignment(holes, newest, bounds, value),
-        PredicateType::UpperBound => tighten_upper_bound(holes, newest, bounds, value),
-    }
+    value == i32::MAX || value == i32::MIN
 }

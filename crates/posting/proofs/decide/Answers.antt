@@ -42,7 +42,7 @@ outcome : (c : After-step) (o : Step) → c.step.result ≡ o → decided_on c.a
 outcome c o e =
     let a = c.args in
     let value : SFits w32 a.predicate.value = search rules in
-    let step = simp (to_z-of_z value) at c.step.ensures in
+    let step = simp (to_z-of_z value, c.new-domain.ensures) at c.step.ensures in
     ap (decided_on a.variable.bounds a.entries) (sym e ∙ step)
     ∙ by_step a.variable a.domains a.holes a.entries a.predicate c.if-domains-predicate.false
 
