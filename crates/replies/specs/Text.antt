@@ -1,8 +1,10 @@
 -- The text of a reply: the line's number, `ok` or `refused`, and each field after a tab, byte 9 (RULES.md, D9). Assumes nothing.
-use Rattle.std.specs.Prelude.{ℕ, zero, suc, List, [], ◌∷◌, ◌++◌, ℤ}
+use Rattle.std.specs.Prelude.{ℕ, zero, suc, true, false, List, [], ◌∷◌, ◌++◌, ℤ, Some, None, Result, Ok, Err}
 use Rattle.lines.specs.Spelling.{spelled, spelled_integer}
 use Rattle.replies.specs.declared.answers.Reply.{Reply}
 use Rattle.replies.specs.declared.answers.Reply.TheVariants as reply
+use Rattle.replies.specs.declared.answers.LineRefusal.{LineRefusal}
+use Rattle.replies.specs.Replies.{line_number}
 
 -- a text after a tab
 abbrev pub field : List ℕ → List ℕ
@@ -43,16 +45,20 @@ pairs_text (suc n) (x ∷ variables) (v ∷ lowers) = pair_text x v ++ pairs_tex
 abbrev pub shown_text : ℤ → ℤ → ℕ → List ℕ
 shown_text lower upper left = field (spelled_integer lower) ++ (field (spelled_integer upper) ++ field (spelled left))
 
--- the answer after the line's number; with no pair nothing stands after `ok`
-abbrev pub answer_text : Reply → List ℕ → List ℤ → List ℕ
-answer_text (reply.Number n) variables lowers = field ok_word ++ field (spelled n)
-answer_text (reply.Pairs n) variables lowers = field ok_word ++ pairs_text n variables lowers
-answer_text reply.True variables lowers = field ok_word ++ field true_word
-answer_text reply.False variables lowers = field ok_word ++ field false_word
-answer_text reply.Open variables lowers = field ok_word ++ field open_word
-answer_text (reply.Shown lower upper left) variables lowers = field ok_word ++ shown_text lower upper left
-answer_text (reply.Refused n) variables lowers = field refused_word ++ field (spelled n)
+-- the fields after `ok`; with no pair there is none
+abbrev pub told_text : Reply → List ℕ → List ℤ → List ℕ
+told_text (reply.Number n) variables lowers = field (spelled n)
+told_text (reply.Pairs n) variables lowers = pairs_text n variables lowers
+told_text (reply.Truth (Some true)) variables lowers = field true_word
+told_text (reply.Truth (Some false)) variables lowers = field false_word
+told_text (reply.Truth None) variables lowers = field open_word
+told_text (reply.Shown lower upper left) variables lowers = shown_text lower upper left
+
+-- the answer after the line's number
+abbrev pub answer_text : Result Reply LineRefusal → List ℕ → List ℤ → List ℕ
+answer_text (Ok told) variables lowers = field ok_word ++ told_text told variables lowers
+answer_text (Err r) variables lowers = field refused_word ++ field (spelled (line_number r))
 
 -- an output line, with LF, byte 10, at its end
-abbrev pub reply_text : ℕ → Reply → List ℕ → List ℤ → List ℕ
+abbrev pub reply_text : ℕ → Result Reply LineRefusal → List ℕ → List ℤ → List ℕ
 reply_text number answer variables lowers = spelled number ++ (answer_text answer variables lowers ++ (10 ∷ []))

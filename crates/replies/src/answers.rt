@@ -1,92 +1,78 @@
 // What a line is answered, from what its call answered.
 ghost use Rattle.std.specs.Prelude.{◌≡◌};
-ghost use Rattle.stories.specs.Refusals.{number_of};
-ghost use Rattle.replies.specs.Replies.{grow_reply, post_reply, open_reply, synchronise_reply, truth_reply};
+ghost use Rattle.replies.specs.declared.answers.LineRefusal.TheVariants.{Call};
+ghost use Rattle.replies.specs.Replies.{line_number, grow_reply, post_reply, open_reply, synchronise_reply, truth_reply};
 
-use stories::{GrowAnswer, OpenAnswer, PostAnswer, Refusal, SynchroniseAnswer, TruthAnswer};
+use predicates::{Checkpoint, DomainId};
+use stories::Refusal;
 
-// What is printed after the line's number. A `Pairs` has its pairs in two slices.
-#[derive(Clone, Copy)]
+// What is printed after `ok`. A `Pairs` has its pairs in two slices; a truth of `None` is open.
+#[derive(Clone, Copy, Debug, PartialEq, Eq)]
 pub enum Reply {
     Number(u64),
     Pairs(usize),
-    True,
-    False,
-    Open,
+    Truth(Option<bool>),
     Shown { lower: i32, upper: i32, left: u64 },
-    Refused(u8),
 }
 
-// A refusal's number.
-fn number_of(refusal: Refusal) -> u8
-    ensures { result ≡ number_of refusal }
-{
-    match refusal {
-        Refusal::NoVariable => 1,
-        Refusal::NotRoot => 2,
-        Refusal::BadDomain => 3,
-        Refusal::TooManyVariables => 4,
-        Refusal::TrailFull => 5,
-        Refusal::StepOverflow => 6,
-        Refusal::Empty => 7,
-        Refusal::TooManyCheckpoints => 8,
-        Refusal::NotLower => 9,
-        Refusal::NoRoom => 10,
-        Refusal::NoSuchEntry => 11,
-        Refusal::NoDecision => 12,
-        Refusal::NoReason => 13,
+// Why a line is refused: it cannot be read, or its call was refused.
+#[derive(Clone, Copy, Debug, PartialEq, Eq)]
+pub enum LineRefusal {
+    BadLine,
+    Call(Refusal),
+}
+
+impl LineRefusal {
+    // The number that is printed after `refused`.
+    pub fn number(self) -> u8
+        ensures { result ≡ line_number self }
+    {
+        match self {
+            LineRefusal::BadLine => 14,
+            LineRefusal::Call(refusal) => refusal.number(),
+        }
+    }
+}
+
+impl From<Refusal> for LineRefusal {
+    ghost from_gives = { λ refusal line. line ≡ Call refusal };
+
+    fn from(refusal: Refusal) -> Self {
+        LineRefusal::Call(refusal)
     }
 }
 
 // The new variable's number.
-pub fn of_grow(answer: GrowAnswer) -> Reply
+pub fn of_grow(answer: Result<DomainId, Refusal>) -> Result<Reply, LineRefusal>
     ensures { result ≡ grow_reply answer }
 {
-    match answer {
-        GrowAnswer::Grown(id) => Reply::Number(id.0 as u64),
-        GrowAnswer::Refused(refusal) => Reply::Refused(number_of(refusal)),
-    }
+    Ok(Reply::Number(u64::from(answer?.0)))
 }
 
 // 1 for a change, 0 for none.
-pub fn of_post(answer: PostAnswer) -> Reply
+pub fn of_post(answer: Result<bool, Refusal>) -> Result<Reply, LineRefusal>
     ensures { result ≡ post_reply answer }
 {
-    match answer {
-        PostAnswer::Changed => Reply::Number(1),
-        PostAnswer::Unchanged => Reply::Number(0),
-        PostAnswer::Refused(refusal) => Reply::Refused(number_of(refusal)),
-    }
+    Ok(Reply::Number(u64::from(answer?)))
 }
 
 // The new checkpoint.
-pub fn of_open(answer: OpenAnswer) -> Reply
+pub fn of_open(answer: Result<Checkpoint, Refusal>) -> Result<Reply, LineRefusal>
     ensures { result ≡ open_reply answer }
 {
-    match answer {
-        OpenAnswer::Opened(checkpoint) => Reply::Number(checkpoint.0 as u64),
-        OpenAnswer::Refused(refusal) => Reply::Refused(number_of(refusal)),
-    }
+    Ok(Reply::Number(u64::from(answer?.0)))
 }
 
 // The pairs.
-pub fn of_synchronise(answer: SynchroniseAnswer) -> Reply
+pub fn of_synchronise(answer: Result<usize, Refusal>) -> Result<Reply, LineRefusal>
     ensures { result ≡ synchronise_reply answer }
 {
-    match answer {
-        SynchroniseAnswer::Unfixed(pairs) => Reply::Pairs(pairs),
-        SynchroniseAnswer::Refused(refusal) => Reply::Refused(number_of(refusal)),
-    }
+    Ok(Reply::Pairs(answer?))
 }
 
 // True, false or open.
-pub fn of_truth(answer: TruthAnswer) -> Reply
+pub fn of_truth(answer: Result<Option<bool>, Refusal>) -> Result<Reply, LineRefusal>
     ensures { result ≡ truth_reply answer }
 {
-    match answer {
-        TruthAnswer::True => Reply::True,
-        TruthAnswer::False => Reply::False,
-        TruthAnswer::Open => Reply::Open,
-        TruthAnswer::Refused(refusal) => Reply::Refused(number_of(refusal)),
-    }
+    Ok(Reply::Truth(answer?))
 }

@@ -5,5 +5,5 @@
 mod answers;
 mod writing;
 
-pub use answers::{Reply, of_grow, of_open, of_post, of_synchronise, of_truth};
+pub use answers::{LineRefusal, Reply, of_grow, of_open, of_post, of_synchronise, of_truth};
 pub use writing::put_reply;

@@ -3,9 +3,9 @@
 ghost use Rattle.std.specs.Prelude.{◌+◌, ◌*◌, ◌≤◌, length};
 ghost use Rattle.lines.specs.Spelling.{spelled, spelled_integer};
 ghost use Rattle.lines.specs.Writing.{Put};
-ghost use Rattle.replies.specs.Text.{field, pair_text, pairs_text, shown_text, answer_text, reply_text};
+ghost use Rattle.replies.specs.Text.{field, pair_text, pairs_text, shown_text, told_text, answer_text, reply_text};
 
-use crate::answers::Reply;
+use crate::answers::{LineRefusal, Reply};
 use lines::{put_byte, put_bytes, put_integer, put_natural};
 
 // A tab and a number.
@@ -60,45 +60,54 @@ fn put_shown(out: &mut [u8], at: usize, lower: i32, upper: i32, left: u64) -> us
     put_number(out, past_upper, left)
 }
 
-// `ok` or `refused` and the fields.
-fn put_answer(out: &mut [u8], at: usize, reply: Reply, variables: &[u16], lowers: &[i32]) -> usize
-    ensures { Put out.old at (answer_text reply variables.now lowers.now) out.new result × (length (answer_text reply variables.now lowers.now) ≤ 50 + 33 * length variables.now) }
+// The fields after `ok`.
+fn put_told(out: &mut [u8], at: usize, reply: Reply, variables: &[u16], lowers: &[i32]) -> usize
+    ensures { Put out.old at (told_text reply variables.now lowers.now) out.new result × (length (told_text reply variables.now lowers.now) ≤ 47 + 33 * length variables.now) }
 {
     match reply {
-        Reply::Number(number) => {
+        Reply::Number(number) => put_number(out, at, number),
+        Reply::Pairs(count) => put_pairs(out, at, count, variables, lowers),
+        Reply::Truth(Some(true)) => put_bytes(out, at, b"\ttrue"),
+        Reply::Truth(Some(false)) => put_bytes(out, at, b"\tfalse"),
+        Reply::Truth(None) => put_bytes(out, at, b"\topen"),
+        Reply::Shown { lower, upper, left } => put_shown(out, at, lower, upper, left),
+    }
+}
+
+// `ok` or `refused` and the fields.
+fn put_answer(
+    out: &mut [u8],
+    at: usize,
+    answer: Result<Reply, LineRefusal>,
+    variables: &[u16],
+    lowers: &[i32],
+) -> usize
+    ensures { Put out.old at (answer_text answer variables.now lowers.now) out.new result × (length (answer_text answer variables.now lowers.now) ≤ 50 + 33 * length variables.now) }
+{
+    match answer {
+        Ok(reply) => {
             let next = put_bytes(out, at, b"\tok");
-            put_number(out, next, number)
+            put_told(out, next, reply, variables, lowers)
         }
-        Reply::Pairs(count) => {
-            let next = put_bytes(out, at, b"\tok");
-            put_pairs(out, next, count, variables, lowers)
-        }
-        Reply::True => put_bytes(out, at, b"\tok\ttrue"),
-        Reply::False => put_bytes(out, at, b"\tok\tfalse"),
-        Reply::Open => put_bytes(out, at, b"\tok\topen"),
-        Reply::Shown { lower, upper, left } => {
-            let next = put_bytes(out, at, b"\tok");
-            put_shown(out, next, lower, upper, left)
-        }
-        Reply::Refused(refusal) => {
+        Err(refusal) => {
             let next = put_bytes(out, at, b"\trefused");
-            put_number(out, next, refusal as u64)
+            put_number(out, next, u64::from(refusal.number()))
         }
     }
 }
 
-// The whole line: its number, the answer and LF. The pairs of a reply that has some are in the slices.
+// The whole line: its number, the answer and LF. The pairs of an answer that has some are in the slices.
 pub fn put_reply(
     out: &mut [u8],
     at: usize,
     number: u64,
-    reply: Reply,
+    answer: Result<Reply, LineRefusal>,
     variables: &[u16],
     lowers: &[i32],
 ) -> usize
-    ensures { Put out.old at (reply_text number reply variables.now lowers.now) out.new result × (length (reply_text number reply variables.now lowers.now) ≤ 100 + 33 * length variables.now) }
+    ensures { Put out.old at (reply_text number answer variables.now lowers.now) out.new result × (length (reply_text number answer variables.now lowers.now) ≤ 100 + 33 * length variables.now) }
 {
     let past_number = put_natural(out, at, number);
-    let past_answer = put_answer(out, past_number, reply, variables, lowers);
+    let past_answer = put_answer(out, past_number, answer, variables, lowers);
     put_byte(out, past_answer, b'\n')
 }

@@ -1,30 +1,14 @@
--- `put_answer` writes the word and past it the fields, by cases on the reply as `answer_text`.
+-- `put_answer` writes the word and past it the fields.
 use native.Mathlib.Omega.{arith}
-use mir.Syntax.{w32}
-use mir.Val.{SFits}
-use mir.Facts.{to_z-of_z}
 use Rattle.lines.proofs.WritingLaws.{put_more}
-use borrow.Author.Rules.{rules}
 use Rattle.replies.proofs.writing.put_answer.Goals as goal
 
-pub returns-in-Number : goal.returns-in-Number
-returns-in-Number c =
-    let number = c.put_number.ensures in
-    rw c.in-Number.is (put_more c.put_bytes-next.ensures number.0, omega (arith, number.1))
+pub returns-in-Ok : goal.returns-in-Ok
+returns-in-Ok c =
+    let told = c.put_told.ensures in
+    rw c.in-Ok.is (put_more c.put_bytes-next.ensures told.0, omega (arith, told.1))
 
-pub returns-in-Pairs : goal.returns-in-Pairs
-returns-in-Pairs c =
-    let pairs = c.put_pairs.ensures in
-    rw c.in-Pairs.is (put_more c.put_bytes-next-in-Pairs.ensures pairs.0, omega (arith, pairs.1))
-
-pub returns-in-Shown : goal.returns-in-Shown
-returns-in-Shown c =
-    let lower : SFits w32 c.in-Shown.lower = search rules in
-    let upper : SFits w32 c.in-Shown.upper = search rules in
-    let wrote = simp (to_z-of_z lower, to_z-of_z upper) at c.put_shown.ensures in
-    rw c.in-Shown.is (put_more c.put_bytes-next-in-Shown.ensures wrote.0, omega (arith, wrote.1))
-
-pub returns-in-Refused : goal.returns-in-Refused
-returns-in-Refused c =
-    let number = c.put_number-in-Refused.ensures in
-    rw c.in-Refused.is (put_more c.put_bytes-next-in-Refused.ensures number.0, omega (arith, number.1))
+pub returns-in-Err : goal.returns-in-Err
+returns-in-Err c =
+    let number = simp (c.from.ensures, c.number.ensures) at c.put_number.ensures in
+    rw c.in-Err.is (put_more c.put_bytes-next-in-Err.ensures number.0, omega (arith, number.1))
