@@ -1,5 +1,6 @@
 // The lines that are printed: answers with their line number, and what they are made of.
 use crate::reading::shorter;
+use lines::Writer;
 use predicates::{PredicateType, Reason};
 use stories::{Entry, EntryAnswer, GrowAnswer, OpenAnswer, PostAnswer, Refusal, SynchroniseAnswer};
 
@@ -10,14 +11,23 @@ fn wide(number: u16) -> u64 {
     number as u64
 }
 
+// A text from the place `at` on, and the place after it.
+pub fn put_bytes(out: &mut [u8], at: usize, bytes: &[u8]) -> usize {
+    let mut writer = Writer::new(out, at);
+    writer.put_bytes(bytes);
+    writer.length()
+}
+
 pub fn put_end(out: &mut [u8], at: usize) -> usize {
-    lines::put_byte(out, at, b'\n')
+    put_bytes(out, at, b"\n")
 }
 
 // A further field.
 pub fn put_natural(out: &mut [u8], at: usize, number: u64) -> usize {
-    let next = lines::put_byte(out, at, b'\t');
-    lines::put_natural(out, next, number)
+    let mut writer = Writer::new(out, at);
+    writer.put_byte(b'\t');
+    writer.put_natural(number);
+    writer.length()
 }
 
 // A further field, of a number that the store keeps in 16 bits.
@@ -27,14 +37,18 @@ pub fn put_small(out: &mut [u8], at: usize, number: u16) -> usize {
 
 // A further field, of a value.
 pub fn put_integer(out: &mut [u8], at: usize, value: i32) -> usize {
-    let next = lines::put_byte(out, at, b'\t');
-    lines::put_integer(out, next, value)
+    let mut writer = Writer::new(out, at);
+    writer.put_byte(b'\t');
+    writer.put_integer(value);
+    writer.length()
 }
 
 // The beginning of an answer: the line's number and `ok`.
 pub fn put_ok(out: &mut [u8], at: usize, line: u64) -> usize {
-    let next = lines::put_natural(out, at, line);
-    lines::put_bytes(out, next, b"\tok")
+    let mut writer = Writer::new(out, at);
+    writer.put_natural(line);
+    writer.put_bytes(b"\tok");
+    writer.length()
 }
 
 // An answer that is a number.
@@ -51,8 +65,10 @@ pub fn put_done(out: &mut [u8], at: usize, line: u64) -> usize {
 }
 
 fn put_refused(out: &mut [u8], at: usize, line: u64, number: u64) -> usize {
-    let start = lines::put_natural(out, at, line);
-    let word = lines::put_bytes(out, start, b"\trefused");
+    let mut writer = Writer::new(out, at);
+    writer.put_natural(line);
+    writer.put_bytes(b"\trefused");
+    let word = writer.length();
     let next = put_natural(out, word, number);
     put_end(out, next)
 }
@@ -139,16 +155,16 @@ fn put_pairs(out: &mut [u8], at: usize, pairs: usize, variables: &[u16], lowers:
 
 fn put_kind(out: &mut [u8], at: usize, kind: PredicateType) -> usize {
     match kind {
-        PredicateType::LowerBound => lines::put_bytes(out, at, b"\tge"),
-        PredicateType::NotEqual => lines::put_bytes(out, at, b"\tne"),
-        PredicateType::Equal => lines::put_bytes(out, at, b"\teq"),
-        PredicateType::UpperBound => lines::put_bytes(out, at, b"\tle"),
+        PredicateType::LowerBound => put_bytes(out, at, b"\tge"),
+        PredicateType::NotEqual => put_bytes(out, at, b"\tne"),
+        PredicateType::Equal => put_bytes(out, at, b"\teq"),
+        PredicateType::UpperBound => put_bytes(out, at, b"\tle"),
     }
 }
 
 fn put_reason(out: &mut [u8], at: usize, reason: Reason) -> usize {
     match reason {
-        Reason::None => lines::put_bytes(out, at, b"\t-"),
+        Reason::None => put_bytes(out, at, b"\t-"),
         Reason::Given(number) => put_natural(out, at, number as u64),
     }
 }

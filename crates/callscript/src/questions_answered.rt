@@ -1,7 +1,7 @@
 // The questions about one variable, answered: the call that each asks for, and the line that is printed.
 ghost use Rattle.stores.specs.Made.{Made};
 
-use crate::answers::{put_end, put_integer, put_natural, put_ok, put_refusal};
+use crate::answers::{put_bytes, put_end, put_integer, put_natural, put_ok, put_refusal};
 use crate::questions_asked::Question;
 use questions::{
     evaluate_predicate, evaluate_predicate_at_trail_position, get_assigned_value,
@@ -74,7 +74,7 @@ pub fn answer_of(store: Assignments, question: Question) -> Answer
 // An answer that is a word, which comes with its tab.
 fn put_word(out: &mut [u8], at: usize, line: u64, word: &[u8]) -> usize {
     let ok = put_ok(out, at, line);
-    let next = lines::put_bytes(out, ok, word);
+    let next = put_bytes(out, ok, word);
     put_end(out, next)
 }
 

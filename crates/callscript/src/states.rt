@@ -92,7 +92,7 @@ fn flag(marks: [bool; 1025], position: TrailPosition) -> u64 {
 
 // The beginning of a line of the state: its word and a variable's number.
 fn put_start(out: &mut [u8], at: usize, word: &[u8], variable: u64) -> usize {
-    let next = lines::put_bytes(out, at, word);
+    let next = answers::put_bytes(out, at, word);
     answers::put_natural(out, next, variable)
 }
 

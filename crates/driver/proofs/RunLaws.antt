@@ -177,6 +177,10 @@ module _ {s store : Assignments} {first number read written : ℕ} {input before
           text = append_assoc g.done printed _ ∙ (λ i. g.done ++ (printed ++ run_text (add-one number i) (stored i) (coming input before afterwards (number + 1) (end + 1) next))) ∙ text;
         }
 
+-- the run is told by the length of what was written, and by what the buffer holds in the end
+pub ran_left : {s store : Assignments} {first number read written next : ℕ} {input before out after : List ℕ} → Ran s first input before (record { store = store; number = number; read = read; written = written }) out → next ≡ written → after ≡ out → Ran s first input before (record { store = store; number = number; read = read; written = next }) after
+ran_left ran length held = rw (length, held) ran
+
 -- what a caller's sums need: the number rises by no more than the bytes that were read, these are in the input, and the buffer is as long as before
 module _ {s : Assignments} {first : ℕ} {input before after : List ℕ} {r : Answered} (ran : Ran s first input before r after) where
   pub ran_inside : r.read ≤ length input

@@ -6,6 +6,7 @@ ghost use Rattle.driver.specs.Runs.{Ran};
 use crate::lines_of::line_end;
 use crate::questions_of::{ask, ask_at, place_of, show};
 use commands::{Command, list_values, read_command};
+use lines::Writer;
 use posting::Decision;
 use predicates::{Checkpoint, DomainId, Predicate, TrailPosition};
 use replies::{Reply, put_reply};
@@ -35,15 +36,15 @@ pub fn answer_lines(mut store: Assignments, first: u64, input: &[u8], out: &mut 
     let mut lowers = [0i32; 1024];
     let mut number = first;
     let mut read = 0;
-    let mut written = 0;
-    while LONGEST_ANSWER <= out.len() - written {
+    let mut writer = Writer::new(out, 0);
+    while LONGEST_ANSWER <= writer.room() {
         let end = line_end(input, read);
         if end == input.len() {
             return Answered {
                 store,
                 number,
                 read,
-                written,
+                written: writer.length(),
             };
         }
         let line = &input[read..end];
@@ -118,7 +119,7 @@ pub fn answer_lines(mut store: Assignments, first: u64, input: &[u8], out: &mut 
             Some(Command::Count) => Reply::Number(store.pruned),
             None => Reply::Refused(BAD_LINE),
         };
-        written = put_reply(out, written, number, reply, &variables, &lowers);
+        put_reply(&mut writer, number, reply, &variables, &lowers);
         number += 1;
         read = end + 1;
     }
@@ -126,6 +127,6 @@ pub fn answer_lines(mut store: Assignments, first: u64, input: &[u8], out: &mut 
         store,
         number,
         read,
-        written,
+        written: writer.length(),
     }
 }

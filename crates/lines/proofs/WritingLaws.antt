@@ -7,7 +7,8 @@ use native.Mathlib.Nat.{add-zero}
 use native.Mathlib.Omega.{arith}
 use lib.ListN.{length, take, drop, length-append}
 use lib.Seq.{sets, set_out, length-sets, sets-eq, drop_at, length-take-le, take-append_seam}
-use Rattle.lines.specs.Writing.{Put}
+use Rattle.lines.specs.declared.writing.Writer.{Writer}
+use Rattle.lines.specs.Writing.{Put, Wrote}
 use Rattle.lines.proofs.Cases.{below_or_not}
 
 -- a run of stores goes on where another ended
@@ -52,3 +53,10 @@ module _ {before text after : List ℕ} {at next : ℕ} (p : Put before at text 
       let size : next - at ≡ length text = omega (arith, put_past) in
       rw (size, p.written, sets-eq text before at room, append_assoc, drop_at (take at before) _ at (length-take-le at before (omega arith)))
       (take-append_seam text _)
+
+-- so it is with a writer that writes one text and then another
+pub wrote_nothing : (w : Writer) → Wrote w [] w
+wrote_nothing w = record { put = put_nothing _ _; same_buffer = refl }
+
+pub wrote_more : {start middle end : Writer} {first second : List ℕ} → Wrote start first middle → Wrote middle second end → Wrote start (first ++ second) end
+wrote_more p q = record { put = put_more p.put q.put; same_buffer = q.same_buffer ∙ p.same_buffer }

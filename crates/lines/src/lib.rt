@@ -8,4 +8,4 @@ mod writing;
 
 pub use fields::{field, field_count, is_word};
 pub use numbers::{read_integer, read_natural};
-pub use writing::{put_byte, put_bytes, put_integer, put_natural};
+pub use writing::Writer;

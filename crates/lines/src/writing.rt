@@ -1,66 +1,76 @@
-// Text written into a buffer from a place on, as far as the buffer reaches. Each function answers the place after the last byte that it wrote.
-ghost use Rattle.std.specs.Prelude.{◌≡◌, [], ◌∷◌, unsigned_abs};
+// Text written into a lent buffer.
+ghost use Rattle.std.specs.Prelude.{◌-◌, ◌≡◌, [], ◌∷◌, length};
 ghost use Rattle.lines.specs.Spelling.{spelled, spelled_integer};
-ghost use Rattle.lines.specs.Writing.{Put};
+ghost use Rattle.lines.specs.Writing.{Wrote};
 
-// One byte.
-pub fn put_byte(out: &mut [u8], at: usize, byte: u8) -> usize
-    ensures { Put out.old at (byte ∷ []) out.new result }
-{
-    if at < out.len() {
-        out[at] = byte;
-        at + 1
-    } else {
-        at
-    }
+// Writes one text after another into a buffer, as far as the buffer reaches.
+#[derive(Drop)]
+pub struct Writer<'a> {
+    buffer: &'a mut [u8],
+    // The place after the last byte that was written.
+    length: usize,
 }
 
-// All of `bytes`.
-pub fn put_bytes(out: &mut [u8], at: usize, bytes: &[u8]) -> usize
-    ensures { Put out.old at bytes.now out.new result }
-{
-    let mut next = at;
-    let mut i = 0;
-    while i < bytes.len() {
-        next = put_byte(out, next, bytes[i]);
-        i += 1;
+impl<'a> Writer<'a> {
+    // A writer that goes on at the place `length` of the buffer.
+    pub fn new(buffer: &'a mut [u8], length: usize) -> Self
+        ensures same_buffer { result.buffer.ghost_name ≡ buffer.entry.ghost_name }
+        ensures text { result.buffer.now ≡ buffer.old }
+        ensures place { result.length ≡ length }
+    {
+        Writer { buffer, length }
     }
-    next
-}
 
-// The number's spelling: that of its tenth, and the last digit.
-pub fn put_natural(out: &mut [u8], at: usize, number: u64) -> usize
-    ensures { Put out.old at (spelled number) out.new result }
-{
-    if number < 10 {
-        put_byte(out, at, 48 + number as u8)
-    } else {
-        let next = put_natural(out, at, number / 10);
-        put_byte(out, next, 48 + (number % 10) as u8)
+    // The place after the last byte that was written.
+    pub fn length(&self) -> usize
+        ensures { result ≡ self.now.length }
+    {
+        self.length
     }
-}
 
-// The number's spelling, with a minus below zero.
-pub fn put_integer(out: &mut [u8], at: usize, value: i32) -> usize
-    ensures { Put out.old at (spelled_integer value) out.new result }
-{
-    let digits = magnitude(value);
-    if value < 0 {
-        let next = put_byte(out, at, b'-');
-        put_natural(out, next, digits)
-    } else {
-        put_natural(out, at, digits)
+    // How many bytes more have room.
+    pub fn room(&self) -> usize
+        ensures { result ≡ length self.now.buffer.now - self.now.length }
+    {
+        self.buffer.len().saturating_sub(self.length)
     }
-}
 
-// The number without its sign.
-fn magnitude(value: i32) -> u64
-    ensures { result ≡ unsigned_abs value }
-{
-    let wide = value as i64;
-    if wide < 0 {
-        (0 - wide) as u64
-    } else {
-        wide as u64
+    // One byte.
+    pub fn put_byte(&mut self, byte: u8)
+        ensures { Wrote self.old (byte ∷ []) self.new }
+    {
+        if self.length < self.buffer.len() {
+            self.buffer[self.length] = byte;
+            self.length += 1;
+        }
+    }
+
+    // All of `bytes`.
+    pub fn put_bytes(&mut self, bytes: &[u8])
+        ensures { Wrote self.old bytes.now self.new }
+    {
+        for byte in bytes {
+            self.put_byte(*byte);
+        }
+    }
+
+    // The number's spelling: that of its tenth, and the last digit.
+    pub fn put_natural(&mut self, number: u64)
+        ensures { Wrote self.old (spelled number) self.new }
+    {
+        if 10 <= number {
+            self.put_natural(number / 10);
+        }
+        self.put_byte(b'0' + (number % 10) as u8);
+    }
+
+    // The number's spelling, with a minus below zero.
+    pub fn put_integer(&mut self, value: i32)
+        ensures { Wrote self.old (spelled_integer value) self.new }
+    {
+        if value < 0 {
+            self.put_byte(b'-');
+        }
+        self.put_natural(u64::from(value.unsigned_abs()));
     }
 }

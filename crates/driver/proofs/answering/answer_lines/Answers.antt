@@ -35,7 +35,7 @@ use Rattle.driver.specs.Parts.{about, truth_in, truth_at, shown_in}
 use Rattle.driver.proofs.ListLaws.{values_fit}
 use Rattle.driver.proofs.PlaceLaws.{placed}
 use Rattle.driver.proofs.ReplyLaws.{grow_plain, post_plain, open_plain, truth_plain, pick_plain, truth_of_lem, back_shows, Did, did, did_plain}
-use Rattle.driver.proofs.RunLaws.{going_full, going_out, going_more}
+use Rattle.driver.proofs.RunLaws.{going_full, going_out, going_more, ran_left}
 use borrow.Author.Rules.{rules}
 use Rattle.predicates.specs.declared.DomainId.{DomainId}
 use Rattle.stores.specs.declared.Assignments.{Assignments}
@@ -47,24 +47,25 @@ own : (s : Assignments) → Made s → (d : DomainId) (place : ℕ) → (d.0 < 2
 own s made d place placed there = ap (λ (n : ℕ). get_or s.variables n no_variable) (placed (omega (arith, there, (tidy (straight made)).domains)))
 
 pub returns-then-end-input : goal.returns-then-end-input
-returns-then-end-input c = going_out c.loop-out.invariant.0 c.line_end-end.result c.line_end-end.ensures c.if-end-input.true
+returns-then-end-input c =
+    ran_left (going_out c.loop-variables.invariant.0 c.line_end-end.result c.line_end-end.ensures c.if-end-input.true) c.length.ensures (search rules)
 
 pub decide-requires : goal.decide-requires
 decide-requires c =
-    let s = c.loop-out.store in
-    let made = c.loop-out.invariant.0.made in
+    let s = c.loop-variables.store in
+    let made = c.loop-variables.invariant.0.made in
     reads_sound s made c.from-predicate.result (get_or s.variables c.place_of.result no_variable) (own s made c.from-predicate.result.domain c.place_of.result c.place_of.ensures.1)
 
 -- where the arms meet: the line was answered, and the slices for pairs are as long as ever
-pub loop-out-preserved : goal.loop-out-preserved
+pub loop-variables-preserved : goal.loop-variables-preserved
 unfolding command_store command_reply command_pairs command_text domain_of domain_at
-loop-out-preserved c =
-    let s = c.loop-out.store in
-    let made = c.loop-out.invariant.0.made in
-    let line = take (c.line_end-end.result - c.loop-out.read) (drop c.loop-out.read c.args.input.now) in
+loop-variables-preserved c =
+    let s = c.loop-variables.store in
+    let made = c.loop-variables.invariant.0.made in
+    let line = take (c.line_end-end.result - c.loop-variables.read) (drop c.loop-variables.read c.args.input.now) in
     let said = sym c.read_command.ensures in
-    let variables = c.loop-out.invariant.1 in
-    let lowers = c.loop-out.invariant.2 in
+    let variables = c.loop-variables.invariant.2 in
+    let lowers = c.loop-variables.invariant.3 in
     let few = (tidy (straight made)).domains in
     let met = c.match-read_command in
     let did_here : Did s line met.store met.reply met.variables met.lowers × (length met.variables ≡ 1024) × (length met.lowers ≡ 1024) =
@@ -136,14 +137,14 @@ loop-out-preserved c =
       | in-Some-Back w ↦
           let k = w.in-Some-Back.checkpoint in
           let gone = w.synchronise-gone in
-          let room : min (length c.loop-out.variables) (length c.loop-out.lowers) ≡ 1024 = omega (arith, variables, lowers) in (
+          let room : min (length c.loop-variables.variables) (length c.loop-variables.lowers) ≡ 1024 = omega (arith, variables, lowers) in (
             did (Some (command.Back k)) (said ∙ w.in-Some-Back.is ∙ ap Some w.in-Some-Back.field-0-is)
                 (w.store-is ∙ gone.ensures.store ∙ (λ i. synchronise_store s (w.new.ensures i) (room i)))
                 (made-back made _ 1024)
                 (λ number.
                 (λ i. reply_text number ((w.reply-is ∙ w.of_synchronise-reply.ensures ∙ ap synchronise_reply (gone.ensures.answer ∙ (λ j. synchronise_answer s (w.new.ensures j) (room j)))) i)
-                ((w.variables-is ∙ gone.ensures.variables ∙ (λ j. written (variables_in (pairs_of s (w.new.ensures j) (room j))) c.loop-out.variables)) i)
-                ((w.lowers-is ∙ gone.ensures.lowers ∙ (λ j. written (lowers_in (pairs_of s (w.new.ensures j) (room j))) c.loop-out.lowers)) i))
+                ((w.variables-is ∙ gone.ensures.variables ∙ (λ j. written (variables_in (pairs_of s (w.new.ensures j) (room j))) c.loop-variables.variables)) i)
+                ((w.lowers-is ∙ gone.ensures.lowers ∙ (λ j. written (lowers_in (pairs_of s (w.new.ensures j) (room j))) c.loop-variables.lowers)) i))
                 ∙ back_shows s _ number _ _),
             ap length w.variables-is ∙ search rules,
             ap length w.lowers-is ∙ search rules,
@@ -205,14 +206,16 @@ loop-out-preserved c =
       )
     ] in
     let did = did_here.0 in
-    let wrote = c.put_reply-written.ensures in
-    let text = did.text c.loop-out.number in
-    let ahead : c.line_end-end.result < length c.args.input.now = omega (arith, c.line_end-end.ensures.inside c.loop-out.invariant.0.inside, c.if-end-input.false) in
-    let enough : 34000 ≤ length c.args.out.now - c.loop-out.written = subst (λ (n : ℕ). 34000 ≤ n - c.loop-out.written) (put_length c.loop-out.invariant.0.put) c.loop-out-test.true in (
-      going_more c.loop-out.invariant.0 c.line_end-end.ensures ahead enough met.store did.stored (subst Made (sym did.stored) did.made) (rw text at wrote.0) (omega (arith, wrote.1, ap length text, did_here.1)),
+    let wrote = c.put_reply.ensures in
+    let text = did.text c.loop-variables.number in
+    let ahead : c.line_end-end.result < length c.args.input.now = omega (arith, c.line_end-end.ensures.inside c.loop-variables.invariant.0.inside, c.if-end-input.false) in
+    let enough : 34000 ≤ length c.args.out.now - c.loop-variables.writer.length = subst (λ (n : ℕ). 34000 ≤ n - c.loop-variables.writer.length) (put_length c.loop-variables.invariant.0.put) (rw c.room.ensures at c.loop-variables-test.true) in (
+      going_more c.loop-variables.invariant.0 c.line_end-end.ensures ahead enough met.store did.stored (subst Made (sym did.stored) did.made) (rw text at wrote.0.put) (omega (arith, wrote.1, ap length text, did_here.1)),
+      wrote.0.same_buffer ∙ c.loop-variables.invariant.1,
       did_here.1,
       did_here.2,
     )
 
 pub returns : goal.returns
-returns c = going_full c.loop-out.invariant.0 (omega (arith, c.loop-out-test.false, put_length c.loop-out.invariant.0.put))
+returns c =
+    ran_left (going_full c.loop-variables.invariant.0 (omega (arith, c.room.ensures, c.loop-variables-test.false, put_length c.loop-variables.invariant.0.put))) c.length-2.ensures (search rules)

@@ -1,14 +1,17 @@
--- `put_pairs` writes the pairs: at every turn those passed stand in the buffer, and one more is written past them.
-use Prim.Native.Nat.{◌-◌, ◌*◌, ◌≤◌}
+-- `put_pairs` writes the pairs: at every turn those passed were written, and they and those that are left are all.
+use Prim.Native.Nat.{ℕ, ◌+◌, ◌*◌, ◌≤◌}
+use mathlib.Core.Path.{◌≡◌}
+use mathlib.Core.List.{List, ◌++◌}
 use lib.ListN.{length}
-use Rattle.lines.specs.Writing.{Put}
+use Rattle.std.specs.Slice.Iter.{iter_rest}
+use Rattle.lines.specs.Writing.{Wrote}
 use Rattle.replies.specs.Text.{pairs_text}
 use Rattle.replies.proofs.writing.put_pairs.Given as goal
 
-abbrev pub invariant-loop-i : goal.invariant-loop-i
-invariant-loop-i l =
-    (l.i ≤ l.count) × Put l.initial.out l.at (pairs_text l.i l.variables l.lowers) l.out l.next × (length (pairs_text l.i l.variables l.lowers) ≤ 33 * l.i) × (l.i ≤ length l.variables)
-
-abbrev pub decreases-loop-i : goal.decreases-loop-i
-decreases-loop-i l =
-    l.count - l.i
+abbrev pub invariant-loop-variable : goal.invariant-loop-variable
+invariant-loop-variable l =
+    let left = l.variable-iterator in
+    (done : List ℕ)
+    × Wrote l.initial.writer done l.writer
+    × (done ++ pairs_text left.n (iter_rest left.iter.a) (iter_rest left.iter.b) ≡ pairs_text l.count l.variables l.lowers)
+    × (length done + 33 * length (iter_rest left.iter.a) ≤ 33 * length l.variables)
