@@ -1,5 +1,6 @@
 -- What the inner functions read: a variable's record, a pool, bounds. Assumes nothing.
-use Rattle.std.specs.Prelude.{ℕ, List, ℤ, get_or, leb, Result, Ok, Err}
+use Rattle.std.specs.Prelude.{ℕ, List, ℤ, get_or, leb, Option, Some, None, Result, Ok, Err}
+use Rattle.predicates.specs.declared.TrailPosition.{TrailPosition}
 use Rattle.domains.specs.declared.Bounds.{Bounds}
 use Rattle.domains.specs.Choice.{pick}
 use Rattle.domains.specs.Domain.{Domain}
@@ -31,6 +32,11 @@ holes_in holes newest = values_of (chain_of holes.updates newest)
 
 abbrev pub holes_at : Pool → ℕ → ℕ → List ℤ
 holes_at holes newest p = values_of (up_to (chain_of holes.updates newest) p)
+
+-- those up to a position, or with none all of them
+abbrev pub holes_until : Pool → ℕ → Option TrailPosition → List ℤ
+holes_until holes newest None = holes_in holes newest
+holes_until holes newest (Some p) = holes_at holes newest p.0
 
 -- the domain with these bounds and holes
 abbrev pub within : Bounds → List ℤ → Domain

@@ -1,19 +1,18 @@
 // The questions about a variable, now and at a position of the trail, by Pumpkin's names. Each reads the variable's record
-// and asks a function of parts.rt. Relies on integers, predicates, domains, pools and stores.
+// and asks the domain that it tells of. Relies on integers, predicates, domains, pools and stores.
 #![tactic(auto, using(crate::proofs::Asking::few), unfolding(stores::specs::Store::domain_of, stores::specs::Positions::domain_at, domains::specs::Truth::truth_of, stories::specs::Questions::left_of))]
 
 mod parts;
+mod seen;
 
 ghost use Rattle.std.specs.Prelude.{◌≡◌};
 ghost use Rattle.stores.specs.Made.{Made};
 ghost use Rattle.stories.specs.Questions.{lowest, highest, contains, is_one, assigned_value, truth, satisfied, falsified, left_of};
 ghost use Rattle.questions.specs.Answers.{ask_now, ask_at, initial_lower, initial_upper};
 
-pub use parts::{
-    bounds_at, find, in_domain, in_domain_at, is_one, lower_at, only_value, truth_at, truth_now,
-    upper_at, values_left,
-};
+pub use parts::{bounds_at, find, lower_at, upper_at};
 use predicates::{DomainId, Predicate, TrailPosition};
+pub use seen::SeenDomain;
 use stores::Assignments;
 use stories::Refusal;
 
@@ -79,7 +78,7 @@ pub fn is_value_in_domain(store: Assignments, domain: DomainId, value: i32) -> R
     ensures { result ≡ ask_now (contains value) store domain.0 }
 {
     let variable = find(store.variables, store.domains, domain)?;
-    Ok(in_domain(store.holes, variable.holes, variable.bounds, value))
+    Ok(SeenDomain::now(&store.holes, variable).contains(value))
 }
 
 pub fn is_value_in_domain_at_trail_position(
@@ -92,8 +91,8 @@ pub fn is_value_in_domain_at_trail_position(
     ensures { result ≡ ask_at (contains value) store domain.0 position.0 }
 {
     let variable = find(store.variables, store.domains, domain)?;
-    let bounds = bounds_at(store.lower, store.upper, variable, position);
-    Ok(in_domain_at(store.holes, variable.holes, bounds, position, value))
+    let seen = SeenDomain::at(store.lower, store.upper, &store.holes, variable, position);
+    Ok(seen.contains(value))
 }
 
 pub fn is_domain_assigned(store: Assignments, domain: DomainId) -> Result<bool, Refusal>
@@ -101,7 +100,7 @@ pub fn is_domain_assigned(store: Assignments, domain: DomainId) -> Result<bool, 
     ensures { result ≡ ask_now is_one store domain.0 }
 {
     let variable = find(store.variables, store.domains, domain)?;
-    Ok(is_one(variable.bounds))
+    Ok(SeenDomain::now(&store.holes, variable).is_assigned())
 }
 
 pub fn is_domain_assigned_at_trail_position(
@@ -113,7 +112,8 @@ pub fn is_domain_assigned_at_trail_position(
     ensures { result ≡ ask_at is_one store domain.0 position.0 }
 {
     let variable = find(store.variables, store.domains, domain)?;
-    Ok(is_one(bounds_at(store.lower, store.upper, variable, position)))
+    let seen = SeenDomain::at(store.lower, store.upper, &store.holes, variable, position);
+    Ok(seen.is_assigned())
 }
 
 pub fn get_assigned_value(store: Assignments, domain: DomainId) -> Result<Option<i32>, Refusal>
@@ -121,7 +121,7 @@ pub fn get_assigned_value(store: Assignments, domain: DomainId) -> Result<Option
     ensures { result ≡ ask_now assigned_value store domain.0 }
 {
     let variable = find(store.variables, store.domains, domain)?;
-    Ok(only_value(variable.bounds))
+    Ok(SeenDomain::now(&store.holes, variable).assigned_value())
 }
 
 // From both bounds at the position; those of now may be another value, on a variable emptied since.
@@ -134,7 +134,8 @@ pub fn get_assigned_value_at_trail_position(
     ensures { result ≡ ask_at assigned_value store domain.0 position.0 }
 {
     let variable = find(store.variables, store.domains, domain)?;
-    Ok(only_value(bounds_at(store.lower, store.upper, variable, position)))
+    let seen = SeenDomain::at(store.lower, store.upper, &store.holes, variable, position);
+    Ok(seen.assigned_value())
 }
 
 // The order of the tests decides where no value is left.
@@ -143,13 +144,7 @@ pub fn evaluate_predicate(store: Assignments, predicate: Predicate) -> Result<Op
     ensures { result ≡ ask_now (truth predicate.kind predicate.value) store predicate.domain.0 }
 {
     let variable = find(store.variables, store.domains, predicate.domain)?;
-    Ok(truth_now(
-        store.holes,
-        variable.holes,
-        variable.bounds,
-        predicate.kind,
-        predicate.value,
-    ))
+    Ok(SeenDomain::now(&store.holes, variable).truth(predicate.kind, predicate.value))
 }
 
 pub fn evaluate_predicate_at_trail_position(
@@ -161,15 +156,8 @@ pub fn evaluate_predicate_at_trail_position(
     ensures { result ≡ ask_at (truth predicate.kind predicate.value) store predicate.domain.0 position.0 }
 {
     let variable = find(store.variables, store.domains, predicate.domain)?;
-    let bounds = bounds_at(store.lower, store.upper, variable, position);
-    Ok(truth_at(
-        store.holes,
-        variable.holes,
-        bounds,
-        position,
-        predicate.kind,
-        predicate.value,
-    ))
+    let seen = SeenDomain::at(store.lower, store.upper, &store.holes, variable, position);
+    Ok(seen.truth(predicate.kind, predicate.value))
 }
 
 pub fn is_predicate_satisfied(store: Assignments, predicate: Predicate) -> Result<bool, Refusal>
@@ -192,5 +180,5 @@ pub fn left(store: Assignments, domain: DomainId) -> Result<u64, Refusal>
     ensures { result ≡ ask_now left_of store domain.0 }
 {
     let variable = find(store.variables, store.domains, domain)?;
-    Ok(values_left(variable.bounds))
+    Ok(SeenDomain::now(&store.holes, variable).left())
 }
