@@ -1,6 +1,5 @@
 -- Creating from a list, as the code does it: the dense variable first, whose refusals are those of the list, and then the walk.
-use Rattle.std.specs.Prelude.{Result, Ok, Err, is_ok}
-use Rattle.std.specs.Prelude.{ℕ, ◌+◌, ◌≤◌, ◌<◌, ◌≡◌, refl, Bool, true, false, List, [], ◌∷◌, ℤ, pos, length, ltb, leb}
+use Rattle.std.specs.Prelude.{Result, Ok, Err, is_ok, ◌+◌, ◌≤◌, ◌<◌, ◌≡◌, refl, Bool, true, false, List, [], ◌∷◌, ℤ, pos, length, ltb, leb}
 use Rattle.std.proofs.Math.Path.{sym, ap}
 use Rattle.std.proofs.Common.{◌∙◌, get_or-set_same, ltb-true, ltb-false, leb-true, leb-false}
 use Rattle.std.specs.Int.Signed.{lt_z}
@@ -19,7 +18,7 @@ use Rattle.stores.specs.Calls.{grow_answer, grow_store, grown, list_answer, list
 use Rattle.stories.specs.Calls.{span_of, missing}
 use Rattle.stores.proofs.Straight.{Straight, tidy}
 use Rattle.stores.proofs.Meaning.{meant}
-use Rattle.stores.proofs.Cases.{grow_above, grow_many, grow_full, grow_taken, list_above, list_many, list_full, list_taken}
+use Rattle.stores.proofs.Cases.{grow_above, grow_bad, grow_many, grow_full, grow_taken, list_above, list_many, list_full, list_taken}
 use Rattle.creating.specs.Parts.{between}
 use Rattle.creating.specs.Dense.{dense, grown_dense}
 use Rattle.creating.specs.Spans.{Spanned}
@@ -36,13 +35,37 @@ nothing_alike s [] h = (refl, kept (ltb 0 s.checkpoint))
     kept false = refl
 nothing_alike s (v ∷ vs) h = absurd (omega arith)
 
+-- no answer refuses and is taken
+never : {A : Type 0} {a : Result DomainId Refusal} {r : Refusal} {x : DomainId} → a ≡ Err r → a ≡ Ok x → A
+never p q = cc
+
 -- what a grow that was not refused tells
-record Grows (s : Assignments) (b : Bounds) (x : DomainId) : Type 0 where
+pub record Grows (s : Assignments) (b : Bounds) (x : DomainId) : Type 0 where
   pub root : s.checkpoint ≤ 0
   pub few : s.domains < 256
   pub room : s.trail.length + 2 ≤ 1024
   pub number : x ≡ record { 0 = s.domains }
   pub store : grow_store s b ≡ grown s b
+
+module _ (s : Assignments) (b : Bounds) where
+  pub grows : (x : DomainId) → grow_answer s b ≡ Ok x → Grows s b x
+  grows x made =
+      by_cases (ltb 0 s.checkpoint) (λ e. never (sym (grow_above s b (ltb-true _ _ e)).0) made)
+      (λ e. by_cases (lt_z b.upper b.lower) (λ f. never (sym (grow_bad s b (ltb-false _ _ e) f).0) made)
+      (λ f. by_cases (leb 256 s.domains) (λ g. never (sym (grow_many s b (ltb-false _ _ e) f (leb-true _ _ g)).0) made)
+      (λ g. by_cases (ltb 1024 (s.trail.length + 2)) (λ h. never (sym (grow_full s b (ltb-false _ _ e) f (leb-false _ _ g) (ltb-true _ _ h)).0) made)
+      (λ h.
+      let taken = grow_taken s b (ltb-false _ _ e) f (leb-false _ _ g) (ltb-false _ _ h) in
+      record { root = ltb-false _ _ e; few = leb-false _ _ g; room = ltb-false _ _ h; number = cc taken.0; store = sym taken.1 }))))
+
+  -- a refused one leaves the store as it is
+  pub grows_not : (r : Refusal) → grow_answer s b ≡ Err r → s ≡ grow_store s b
+  unfolding grow_store
+  grows_not r e = rw e refl
+
+pub lists_not : (s : Assignments) (vs : List ℤ) → is_ok (list_answer s vs) ≡ false → s ≡ list_store s vs
+unfolding list_store
+lists_not s vs e = rw e refl
 
 module _ (s : Assignments) (vs : List ℤ) (spanned : Spanned vs) where
   span : Bounds
@@ -59,9 +82,6 @@ module _ (s : Assignments) (vs : List ℤ) (spanned : Spanned vs) where
       (λ e. by_cases (leb 256 s.domains) (λ f. many (ltb-false _ _ e) (leb-true _ _ f))
       (λ f. by_cases (ltb 1024 (s.trail.length + 2)) (λ g. full (ltb-false _ _ e) (leb-false _ _ f) (ltb-true _ _ g))
       (λ g. taken (ltb-false _ _ e) (leb-false _ _ f) (ltb-false _ _ g))))
-
-  never : {A : Type 0} {r : Refusal} {x : DomainId} → grow_answer s span ≡ Err r → grow_answer s span ≡ Ok x → A
-  never p q = let z : ◌≡◌ {A = ℕ} 0 1 = cc in absurd (omega arith)
 
   -- a refused grow is refused as the list is
   pub refused_alike : (r : Refusal) → grow_answer s (span_of vs) ≡ Err r → (grow_answer s (span_of vs) ≡ list_answer s vs) × (grow_store s (span_of vs) ≡ list_store s vs)
@@ -80,14 +100,7 @@ module _ (s : Assignments) (vs : List ℤ) (spanned : Spanned vs) where
   module _ (x : DomainId) (g : Assignments) (made : grow_answer s (span_of vs) ≡ Ok x) (is : g ≡ grow_store s (span_of vs)) where
     tells : Grows s span x
     unfolding span
-    tells =
-        cases (Grows s span x)
-        (λ above. never (sym (grow_above s span above).0) made)
-        (λ root many. never (sym (grow_many s span root good many).0) made)
-        (λ root few full. never (sym (grow_full s span root good few full).0) made)
-        (λ root few room.
-        let taken = grow_taken s span root good few room in
-        record { root = root; few = few; room = room; number = cc taken.0; store = sym taken.1 })
+    tells = grows s span x made
 
     number : x.0 ≡ s.domains
     number = ap (λ (y : DomainId). y.0) tells.number

@@ -1,7 +1,7 @@
 // The calls that create a variable: from two bounds, and from a list of values. Relies on stores and all below it.
 #![tactic(auto)]
 
-ghost use Rattle.std.specs.Prelude.{◌≡◌, true, ◌+◌, ◌<◌, length, ◌≤ℤ◌, ◌≤◌, Err, IfOk, IfErr, MatchOption};
+ghost use Rattle.std.specs.Prelude.{◌≡◌, true, ◌+◌, ◌<◌, length, ◌≤ℤ◌, ◌≤◌, OnOk, IfErr, MatchOption};
 ghost use Rattle.std.specs.Int.Signed.{lt_z};
 ghost use Rattle.predicates.specs.declared.Reason.TheVariants.{None};
 ghost use Rattle.domains.specs.Choice.{pick};
@@ -21,16 +21,6 @@ use pools::Update;
 use predicates::{DomainId, Predicate, Reason, TrailPosition};
 use stores::{Assignments, Called, Trail, Variable};
 use stories::{Entry, Refusal};
-
-// What a refused call gives back: the store as it was.
-fn refused(store: Assignments, refusal: Refusal) -> Called<DomainId>
-    ensures { result ≡ record { answer = Err refusal; store = store } }
-{
-    Called {
-        answer: Err(refusal),
-        store,
-    }
-}
 
 // An entry of a creation, which has no reason, at the end of the trail, which has room for it.
 fn enter(trail: &mut Trail, predicate: Predicate, old: Bounds)
@@ -80,32 +70,47 @@ fn lay_down(store: &mut Assignments, id: DomainId, bounds: Bounds)
     store.domains += 1;
 }
 
+// The next variable's number, if one with these bounds can be made.
+fn next_number(store: &Assignments, bounds: Bounds) -> Result<DomainId, Refusal>
+    requires { Made store.now }
+    ensures { result ≡ grow_answer store.now bounds }
+{
+    if 0 < store.checkpoint {
+        return Err(Refusal::NotRoot);
+    }
+    if bounds.upper < bounds.lower {
+        return Err(Refusal::BadDomain);
+    }
+    let domains = store.domains;
+    if Assignments::MAX_VARIABLES <= domains {
+        return Err(Refusal::TooManyVariables);
+    }
+    let at = store.trail.length;
+    if Assignments::MAX_ENTRIES < at + 2 {
+        return Err(Refusal::TrailFull);
+    }
+    Ok(DomainId(domains as u16))
+}
+
+// Makes a variable with every value between the bounds.
+fn create_dense(store: &mut Assignments, bounds: Bounds) -> Result<DomainId, Refusal>
+    requires { Made store.old }
+    ensures answer { result ≡ grow_answer store.old bounds }
+    ensures store { store.new ≡ grow_store store.old bounds }
+{
+    let id = next_number(store, bounds)?;
+    lay_down(store, id, bounds);
+    Ok(id)
+}
+
 // A variable with every value from `lower` to `upper`.
 pub fn grow(mut store: Assignments, lower: i32, upper: i32) -> Called<DomainId>
     requires { Made store }
     ensures { (result.answer ≡ grow_answer store (between lower upper)) × (result.store ≡ grow_store store (between lower upper)) }
 {
-    if 0 < store.checkpoint {
-        return refused(store, Refusal::NotRoot);
-    }
-    if upper < lower {
-        return refused(store, Refusal::BadDomain);
-    }
-    let domains = store.domains;
-    if Assignments::MAX_VARIABLES <= domains {
-        return refused(store, Refusal::TooManyVariables);
-    }
-    let at = store.trail.length;
-    if Assignments::MAX_ENTRIES < at + 2 {
-        return refused(store, Refusal::TrailFull);
-    }
-    let id = DomainId(domains as u16);
     let bounds = Bounds { lower, upper };
-    lay_down(&mut store, id, bounds);
-    Called {
-        answer: Ok(id),
-        store,
-    }
+    let answer = create_dense(&mut store, bounds);
+    Called { store, answer }
 }
 
 // The smallest and the largest of the values, if there are any.
@@ -146,7 +151,7 @@ fn remove_missing(
 ) -> Result<(), Refusal>
     requires span { span ≡ span_of values.now }
     requires walk { Walk values.now store.old id.0 span.lower store.old }
-    ensures taken { IfOk result (λ _. Done values.now store.old id.0 store.new) }
+    ensures taken { OnOk result (Done values.now store.old id.0 store.new) }
     ensures full { IfErr result (λ e. (e ≡ Refusal.TrailFull) × (1024 < store.old.trail.length + length (missing values.now))) }
 {
     let room = Assignments::MAX_ENTRIES - store.trail.length;
@@ -185,26 +190,34 @@ fn set_mark(store: &mut Assignments, id: DomainId)
     store.variables[id.0 as usize].mark = mark;
 }
 
-// A variable with the listed values, in any order and as often as they come. An empty list is refused as bounds without a value are.
+// Makes a variable with the listed values, unless it is refused; then some of the values that are missing may be removed all the same.
+// An empty list is refused as bounds without a value are.
+fn create_listed(store: &mut Assignments, values: &[i32]) -> Result<DomainId, Refusal>
+    requires { Made store.old }
+    ensures answer { result ≡ list_answer store.old values.now }
+    ensures taken { OnOk result (store.new ≡ list_store store.old values.now) }
+{
+    let Some(span) = span_of(values) else {
+        return create_dense(store, Bounds { lower: 1, upper: 0 });
+    };
+    let id = create_dense(store, span)?;
+    remove_missing(store, id, span, values)?;
+    set_mark(store, id);
+    Ok(id)
+}
+
+// A variable with the listed values, in any order and as often as they come.
 pub fn create_new_integer_variable_sparse(store: Assignments, values: &[i32]) -> Called<DomainId>
     requires { Made store }
     ensures { (result.answer ≡ list_answer store values.now) × (result.store ≡ list_store store values.now) }
 {
-    let Some(span) = span_of(values) else {
-        return grow(store, 1, 0);
-    };
-    let grew = grow(store, span.lower, span.upper);
-    let answer = grew.answer;
-    let Ok(id) = answer else {
-        return grew;
-    };
-    let mut sparse = grew.store;
-    if let Err(refusal) = remove_missing(&mut sparse, id, span, values) {
-        return refused(store, refusal);
+    let mut sparse = store;
+    let answer = create_listed(&mut sparse, values);
+    if answer.is_err() {
+        return Called { store, answer };
     }
-    set_mark(&mut sparse, id);
     Called {
-        answer,
         store: sparse,
+        answer,
     }
 }
