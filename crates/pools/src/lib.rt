@@ -101,7 +101,7 @@ impl Pool {
             .any(|update| update.value == value)
     }
 
-    // Which places of a window are those of the variable's values.
+    // Which places of a window are those of the variable's values. `place` tells the place of a value that stands in it.
     fn marks<F: Fn(i32) -> Option<usize>>(&self, newest: u16, place: F) -> [bool; WINDOW]
         requires callable { F.IsAlwaysCallable place }
         requires within { (v : ℤ) (n : ℕ) → F.post place v (Some n) → n < WINDOW }
@@ -117,7 +117,7 @@ impl Pool {
     }
 
     // How many of the values from a value on, one after the other and `most` at the most, are the variable's. One window
-    // of marks is enough: the pool has no room for a longer run. `place` tells where in the window a value stands.
+    // of marks is enough: the pool has no room for a longer run.
     fn steps<F: Fn(i32) -> Option<usize>>(&self, newest: u16, most: usize, place: F) -> usize
         requires callable { F.IsAlwaysCallable place }
         requires within { (v : ℤ) (n : ℕ) → F.post place v (Some n) → n < WINDOW }

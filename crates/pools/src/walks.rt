@@ -11,8 +11,8 @@ pub struct Updates<'a> {
     pub link: usize,
 }
 
-// From the newest update back to the first. A link leads down, so only what lies before a place is left behind it, and
-// the walk ends whatever the places hold.
+// From the newest update back to the first. A link leads down: after a place only those before it are left, so the walk
+// ends whatever they hold.
 impl<'a> Iterator for Updates<'a> {
     type Item = Update;
 
