@@ -1,196 +1,126 @@
 // The lines that are printed: answers with their line number, and what they are made of.
-use crate::reading::shorter;
-use lines::Writer;
+use crate::states::put_state;
 use predicates::{PredicateType, Reason};
-use stories::{Entry, EntryAnswer, GrowAnswer, OpenAnswer, PostAnswer, Refusal, SynchroniseAnswer};
+use std::fmt::Display;
+use std::io::Write;
+use std::{fmt, io};
+use stores::Assignments;
+use stories::{Entry, Refusal};
 
 // The refusal of a line that cannot be read.
-const BAD_LINE: u64 = 14;
+const BAD_LINE: u8 = 14;
 
-fn wide(number: u16) -> u64 {
-    number as u64
+// The place of a line's answer: where it is printed, and the line's number. It is used up by the one answer that the line has.
+#[derive(Drop)]
+pub struct Answer<'a, W> {
+    pub output: &'a mut W,
+    pub line: u64,
 }
 
-// A text from the place `at` on, and the place after it.
-pub fn put_bytes(out: &mut [u8], at: usize, bytes: &[u8]) -> usize {
-    let mut writer = Writer::new(out, at);
-    writer.put_bytes(bytes);
-    writer.length()
-}
-
-pub fn put_end(out: &mut [u8], at: usize) -> usize {
-    put_bytes(out, at, b"\n")
-}
-
-// A further field.
-pub fn put_natural(out: &mut [u8], at: usize, number: u64) -> usize {
-    let mut writer = Writer::new(out, at);
-    writer.put_byte(b'\t');
-    writer.put_natural(number);
-    writer.length()
-}
-
-// A further field, of a number that the store keeps in 16 bits.
-pub fn put_small(out: &mut [u8], at: usize, number: u16) -> usize {
-    put_natural(out, at, wide(number))
-}
-
-// A further field, of a value.
-pub fn put_integer(out: &mut [u8], at: usize, value: i32) -> usize {
-    let mut writer = Writer::new(out, at);
-    writer.put_byte(b'\t');
-    writer.put_integer(value);
-    writer.length()
-}
-
-// The beginning of an answer: the line's number and `ok`.
-pub fn put_ok(out: &mut [u8], at: usize, line: u64) -> usize {
-    let mut writer = Writer::new(out, at);
-    writer.put_natural(line);
-    writer.put_bytes(b"\tok");
-    writer.length()
-}
-
-// An answer that is a number.
-pub fn put_number(out: &mut [u8], at: usize, line: u64, number: u64) -> usize {
-    let ok = put_ok(out, at, line);
-    let next = put_natural(out, ok, number);
-    put_end(out, next)
-}
-
-// An answer of nothing.
-pub fn put_done(out: &mut [u8], at: usize, line: u64) -> usize {
-    let ok = put_ok(out, at, line);
-    put_end(out, ok)
-}
-
-fn put_refused(out: &mut [u8], at: usize, line: u64, number: u64) -> usize {
-    let mut writer = Writer::new(out, at);
-    writer.put_natural(line);
-    writer.put_bytes(b"\trefused");
-    let word = writer.length();
-    let next = put_natural(out, word, number);
-    put_end(out, next)
-}
-
-pub fn put_bad(out: &mut [u8], at: usize, line: u64) -> usize {
-    put_refused(out, at, line, BAD_LINE)
-}
-
-// The numbers of RULES.md.
-fn refusal_number(refusal: Refusal) -> u64 {
-    match refusal {
-        Refusal::NoVariable => 1,
-        Refusal::NotRoot => 2,
-        Refusal::BadDomain => 3,
-        Refusal::TooManyVariables => 4,
-        Refusal::TrailFull => 5,
-        Refusal::StepOverflow => 6,
-        Refusal::Empty => 7,
-        Refusal::TooManyCheckpoints => 8,
-        Refusal::NotLower => 9,
-        Refusal::NoRoom => 10,
-        Refusal::NoSuchEntry => 11,
-        Refusal::NoDecision => 12,
-        Refusal::NoReason => 13,
-    }
-}
-
-pub fn put_refusal(out: &mut [u8], at: usize, line: u64, refusal: Refusal) -> usize {
-    put_refused(out, at, line, refusal_number(refusal))
-}
-
-pub fn put_grown(out: &mut [u8], at: usize, line: u64, answer: GrowAnswer) -> usize {
-    match answer {
-        GrowAnswer::Grown(id) => put_number(out, at, line, wide(id.0)),
-        GrowAnswer::Refused(refusal) => put_refusal(out, at, line, refusal),
-    }
-}
-
-pub fn put_posted(out: &mut [u8], at: usize, line: u64, answer: PostAnswer) -> usize {
-    match answer {
-        PostAnswer::Changed => put_number(out, at, line, 1),
-        PostAnswer::Unchanged => put_number(out, at, line, 0),
-        PostAnswer::Refused(refusal) => put_refusal(out, at, line, refusal),
-    }
-}
-
-pub fn put_opened(out: &mut [u8], at: usize, line: u64, answer: OpenAnswer) -> usize {
-    match answer {
-        OpenAnswer::Opened(checkpoint) => put_number(out, at, line, wide(checkpoint.0)),
-        OpenAnswer::Refused(refusal) => put_refusal(out, at, line, refusal),
-    }
-}
-
-// The pairs that a synchronise wrote to the lent slices.
-pub fn put_synchronised(
-    out: &mut [u8],
-    at: usize,
-    line: u64,
-    answer: SynchroniseAnswer,
-    variables: &[u16; 1024],
-    lowers: &[i32; 1024],
-) -> usize {
-    match answer {
-        SynchroniseAnswer::Unfixed(pairs) => {
-            let ok = put_ok(out, at, line);
-            let next = put_pairs(out, ok, pairs, variables, lowers);
-            put_end(out, next)
+impl<'a, W: Write> Answer<'a, W> {
+    // What the call gives, in a field, or its refusal.
+    pub fn put<T: Display + Drop>(self, answer: Result<T, Refusal>) -> io::Result<()> {
+        let line = self.line;
+        match answer {
+            Ok(value) => writeln!(self.output, "{line}\tok\t{value}"),
+            Err(refusal) => self.put_refused(refusal.number()),
         }
-        SynchroniseAnswer::Refused(refusal) => put_refusal(out, at, line, refusal),
+    }
+
+    // The same, with a word where the call gives none.
+    pub fn put_or<T: Display + Drop>(
+        self,
+        answer: Result<Option<T>, Refusal>,
+        word: &'static str,
+    ) -> io::Result<()> {
+        self.put(answer.map(|value| OrWord(value, word)))
+    }
+
+    // That the call is done, which gives nothing.
+    pub fn put_done(self) -> io::Result<()> {
+        let line = self.line;
+        writeln!(self.output, "{line}\tok")
+    }
+
+    // That the line cannot be read.
+    pub fn put_bad(self) -> io::Result<()> {
+        self.put_refused(BAD_LINE)
+    }
+
+    fn put_refused(self, number: u8) -> io::Result<()> {
+        let line = self.line;
+        writeln!(self.output, "{line}\trefused\t{number}")
+    }
+
+    // The pairs that a synchronise wrote to the lent slices.
+    pub fn put_pairs(
+        self,
+        answer: Result<usize, Refusal>,
+        variables: &[u16],
+        lowers: &[i32],
+    ) -> io::Result<()> {
+        let pairs = match answer {
+            Ok(pairs) => pairs,
+            Err(refusal) => return self.put_refused(refusal.number()),
+        };
+        let line = self.line;
+        write!(self.output, "{line}\tok")?;
+        for (variable, lower) in variables.iter().zip(lowers).take(pairs) {
+            write!(self.output, "\t{variable}\t{lower}")?;
+        }
+        writeln!(self.output)
+    }
+
+    // The lines of the state, after that of their number.
+    pub fn put_state(self, store: &Assignments) -> io::Result<()> {
+        let line = self.line;
+        writeln!(self.output, "{line}\tok")?;
+        put_state(self.output, store)
     }
 }
 
-fn put_pairs(out: &mut [u8], at: usize, pairs: usize, variables: &[u16], lowers: &[i32]) -> usize {
-    let mut next = at;
-    let count = shorter(pairs, shorter(variables.len(), lowers.len()));
-    let mut pair = 0;
-    while pair < count {
-        next = put_small(out, next, variables[pair]);
-        next = put_integer(out, next, lowers[pair]);
-        pair += 1;
+// A value, or the word for there being none.
+#[derive(Drop)]
+struct OrWord<T>(Option<T>, &'static str);
+
+impl<T: Display> Display for OrWord<T> {
+    fn fmt<W: fmt::Write>(&self, f: &mut fmt::Formatter<W>) -> fmt::Result {
+        match &self.0 {
+            Some(value) => write!(f, "{value}"),
+            None => f.write_str(self.1),
+        }
     }
-    next
 }
 
-fn put_kind(out: &mut [u8], at: usize, kind: PredicateType) -> usize {
+fn operator(kind: PredicateType) -> &'static str {
     match kind {
-        PredicateType::LowerBound => put_bytes(out, at, b"\tge"),
-        PredicateType::NotEqual => put_bytes(out, at, b"\tne"),
-        PredicateType::Equal => put_bytes(out, at, b"\teq"),
-        PredicateType::UpperBound => put_bytes(out, at, b"\tle"),
+        PredicateType::LowerBound => "ge",
+        PredicateType::NotEqual => "ne",
+        PredicateType::Equal => "eq",
+        PredicateType::UpperBound => "le",
     }
 }
 
-fn put_reason(out: &mut [u8], at: usize, reason: Reason) -> usize {
-    match reason {
-        Reason::None => put_bytes(out, at, b"\t-"),
-        Reason::Given(number) => put_natural(out, at, number as u64),
-    }
-}
+// The fields of an entry: variable, operator, value, old lower bound, old upper bound, reason.
+#[derive(Clone, Copy)]
+pub struct EntryFields(pub Entry);
 
-// An entry's fields: variable, operator, value, old lower bound, old upper bound, reason.
-pub fn put_entry(out: &mut [u8], at: usize, entry: Entry) -> usize {
-    let predicate = entry.predicate;
-    let domain = predicate.domain;
-    let operator = predicate.kind;
-    let old = entry.old;
-    let reason = entry.reason;
-    let variable = put_small(out, at, domain.0);
-    let kind = put_kind(out, variable, operator);
-    let value = put_integer(out, kind, predicate.value);
-    let lower = put_integer(out, value, old.lower);
-    let upper = put_integer(out, lower, old.upper);
-    put_reason(out, upper, reason)
-}
-
-pub fn put_entry_answer(out: &mut [u8], at: usize, line: u64, answer: EntryAnswer) -> usize {
-    match answer {
-        EntryAnswer::Found(entry) => {
-            let ok = put_ok(out, at, line);
-            let next = put_entry(out, ok, entry);
-            put_end(out, next)
-        }
-        EntryAnswer::Refused(refusal) => put_refusal(out, at, line, refusal),
+impl Display for EntryFields {
+    fn fmt<W: fmt::Write>(&self, f: &mut fmt::Formatter<W>) -> fmt::Result {
+        let EntryFields(entry) = *self;
+        let predicate = entry.predicate;
+        let domain = predicate.domain.0;
+        let operator = operator(predicate.kind);
+        let value = predicate.value;
+        let old = entry.old;
+        let reason = match entry.reason {
+            Reason::None => OrWord(None, "-"),
+            Reason::Given(number) => OrWord(Some(number), "-"),
+        };
+        write!(
+            f,
+            "{domain}\t{operator}\t{value}\t{}\t{}\t{reason}",
+            old.lower, old.upper
+        )
     }
 }

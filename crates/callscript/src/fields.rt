@@ -1,90 +1,91 @@
-// What fields of a line spell beside bare numbers: rooms, reasons and predicates.
-ghost use Rattle.std.specs.Prelude.{◌<◌};
-
-use predicates::{DomainId, Predicate, PredicateType, Reason};
+// The fields of a line, taken one after the other, each as what the command wants it to spell.
+use crate::list_values::Values;
+use predicates::{Checkpoint, DomainId, Predicate, PredicateType, Reason, TrailPosition};
+use std::str::Split;
 
 // The most places that a line can lend; `back` lends as many.
 pub const MOST_ROOM: usize = 1024;
 
-// Places that a line lends.
-#[derive(Clone, Copy)]
-pub enum Room {
-    Places(usize),
-    Bad,
+// The fields that are yet to be taken.
+#[derive(Drop)]
+pub struct Fields<'a> {
+    rest: Split<'a, char>,
 }
 
-pub fn read_room(field: &[u8]) -> Room {
-    let Some(number) = lines::read_natural(field) else {
-        return Room::Bad;
-    };
-    let places = number as usize;
-    if MOST_ROOM < places {
-        return Room::Bad;
+impl<'a> Fields<'a> {
+    pub fn new(line: &'a str) -> Self {
+        Fields {
+            rest: line.split('\t'),
+        }
     }
-    Room::Places(places)
-}
 
-// A predicate that three fields spell.
-#[derive(Clone, Copy)]
-pub enum Spelt {
-    Claim(Predicate),
-    Bad,
-}
+    pub fn word(&mut self) -> Option<&'a str> {
+        self.rest.next()
+    }
 
-#[derive(Clone, Copy)]
-enum Operator {
-    Kind(PredicateType),
-    Bad,
-}
+    pub fn natural(&mut self) -> Option<u32> {
+        lines::read_natural(self.word()?.as_bytes())
+    }
 
-#[derive(Clone, Copy)]
-pub enum Cause {
-    Reason(Reason),
-    Bad,
-}
+    pub fn integer(&mut self) -> Option<i32> {
+        lines::read_integer(self.word()?.as_bytes())
+    }
 
-fn read_operator(field: &[u8]) -> Operator {
-    if lines::is_word(field, b"ge") {
-        return Operator::Kind(PredicateType::LowerBound);
+    // All fields that are left, each a value.
+    pub fn values(&mut self) -> Option<Values> {
+        let mut values = Values::new();
+        for field in &mut self.rest {
+            values.push(lines::read_integer(field.as_bytes())?)?;
+        }
+        Some(values)
     }
-    if lines::is_word(field, b"le") {
-        return Operator::Kind(PredicateType::UpperBound);
-    }
-    if lines::is_word(field, b"ne") {
-        return Operator::Kind(PredicateType::NotEqual);
-    }
-    if lines::is_word(field, b"eq") {
-        return Operator::Kind(PredicateType::Equal);
-    }
-    Operator::Bad
-}
 
-pub fn read_reason(field: &[u8]) -> Cause {
-    if lines::is_word(field, b"-") {
-        return Cause::Reason(Reason::None);
+    pub fn variable(&mut self) -> Option<DomainId> {
+        self.natural().map(DomainId::new)
     }
-    match lines::read_natural(field) {
-        Some(number) => Cause::Reason(Reason::Given(number)),
-        None => Cause::Bad,
-    }
-}
 
-// The predicate of the fields from `first` on: variable, operator and value.
-pub fn read_predicate(line: &[u8], first: usize) -> Spelt
-    requires { first < 5 }
-{
-    let Some(number) = lines::read_natural(lines::field(line, first)) else {
-        return Spelt::Bad;
-    };
-    let Operator::Kind(kind) = read_operator(lines::field(line, first + 1)) else {
-        return Spelt::Bad;
-    };
-    let Some(value) = lines::read_integer(lines::field(line, first + 2)) else {
-        return Spelt::Bad;
-    };
-    Spelt::Claim(Predicate {
-        domain: DomainId::new(number),
-        kind,
-        value,
-    })
+    pub fn checkpoint(&mut self) -> Option<Checkpoint> {
+        self.natural().map(Checkpoint::new)
+    }
+
+    pub fn position(&mut self) -> Option<TrailPosition> {
+        self.natural().map(TrailPosition::new)
+    }
+
+    // Places that the line lends.
+    pub fn room(&mut self) -> Option<usize> {
+        let places = self.natural()? as usize;
+        (places <= MOST_ROOM).then_some(places)
+    }
+
+    // Three fields: variable, operator and value.
+    pub fn predicate(&mut self) -> Option<Predicate> {
+        Some(Predicate {
+            domain: self.variable()?,
+            kind: self.operator()?,
+            value: self.integer()?,
+        })
+    }
+
+    fn operator(&mut self) -> Option<PredicateType> {
+        match self.word()? {
+            "ge" => Some(PredicateType::LowerBound),
+            "le" => Some(PredicateType::UpperBound),
+            "ne" => Some(PredicateType::NotEqual),
+            "eq" => Some(PredicateType::Equal),
+            _ => None,
+        }
+    }
+
+    pub fn reason(&mut self) -> Option<Reason> {
+        match self.word()? {
+            "-" => Some(Reason::None),
+            number => lines::read_natural(number.as_bytes()).map(Reason::Given),
+        }
+    }
+
+    // That no field is left.
+    pub fn end(&mut self) -> Option<()> {
+        self.word().is_none().then_some(())
+    }
 }

@@ -1,118 +1,108 @@
-// Lines from standard input, which is read in pieces. A line of any length takes no more memory than a short one.
+// Lines from a reader, which is read in pieces. A line of any length takes no more memory than a short one.
 ghost use Rattle.std.specs.Prelude.{◌≤◌};
 
 use std::io::Read;
 
-// Where reading stands. Of the piece the bytes from `at` to `end` are yet to be taken; of the line `length` bytes have been,
-// and `long` says that it had no room for more.
+const LONGEST_LINE: usize = 200;
+
+const PIECE: usize = 65536;
+
+// A line has more bytes than a line may have.
 #[derive(Clone, Copy)]
-pub struct Reader {
-    pub at: usize,
-    pub end: usize,
-    pub length: usize,
-    pub long: bool,
-    pub found: bool,
-    pub over: bool,
+pub struct TooLong;
+
+// What has been read of a line: how many bytes, and the bytes themselves as long as there is room for all.
+#[derive(Drop)]
+pub struct Line {
+    bytes: [u8; LONGEST_LINE],
+    length: usize,
 }
 
-impl Reader {
-    // Nothing has been read.
+impl Line {
     pub fn new() -> Self {
-        Reader {
+        Line {
+            bytes: [0; LONGEST_LINE],
+            length: 0,
+        }
+    }
+
+    // The line's bytes, without its LF.
+    pub fn bytes(&self) -> Result<&[u8], TooLong> {
+        self.bytes.get(..self.length).ok_or(TooLong)
+    }
+
+    fn push(&mut self, more: &[u8]) {
+        let length = self.length.saturating_add(more.len());
+        if let Some(room) = self.bytes.get_mut(self.length..length) {
+            room.copy_from_slice(more);
+        }
+        self.length = length;
+    }
+}
+
+// A reader and the piece of it that was read last, of which the bytes from `at` to `end` are yet to be taken. A BufReader would be on the heap.
+#[derive(Drop)]
+pub struct Input<R> {
+    reader: R,
+    piece: [u8; PIECE],
+    at: usize,
+    end: usize,
+    is_over: bool,
+    ghost taken: { at ≤ end },
+    ghost read: { end ≤ 65536 },
+}
+
+impl<R: Read> Input<R> {
+    pub fn new(reader: R) -> Self {
+        Input {
+            reader,
+            piece: [0; PIECE],
             at: 0,
             end: 0,
-            length: 0,
-            long: false,
-            found: false,
-            over: false,
+            is_over: false,
         }
     }
 
-    // No byte of the next line has been taken.
-    fn between_lines(mut self) -> Self {
-        self.length = 0;
-        self.long = false;
-        self.found = false;
-        self
-    }
-
-    // Whether there is a line: one that ended, or bytes at the input's end.
-    pub fn has_line(self) -> bool {
-        if self.found { true } else { 0 < self.length }
-    }
-}
-
-// Takes the next line. Nothing says that it ends, so the turns are counted down from a number that no run uses up.
-pub fn next_line<R: Read>(
-    input: &mut R,
-    piece: &mut [u8],
-    line: &mut [u8],
-    before: Reader,
-) -> Reader {
-    let mut reader = before.between_lines();
-    let mut turns = u64::MAX;
-    while 0 < turns {
-        turns -= 1;
-        reader = take(piece, line, reader);
-        if reader.found {
-            return reader;
+    // Reads the next line. Whether there is one: one that ended, or bytes at the input's end.
+    pub fn read_line(&mut self, line: &mut Line) -> bool {
+        line.length = 0;
+        // Nothing says that a line ends, so the pieces are counted, up to a number that no run reaches.
+        for _ in 0..u64::MAX {
+            if self.take(line) {
+                return true;
+            }
+            if !self.refill() {
+                break;
+            }
         }
-        if reader.over {
-            return reader;
-        }
-        reader = refill(input, piece, reader);
+        line.length != 0
     }
-    reader
-}
 
-// Takes bytes of the piece up to the line's end, or all that are left.
-fn take(piece: &[u8], line: &mut [u8], mut reader: Reader) -> Reader {
-    let end = reader.end;
-    let mut at = reader.at;
-    let mut length = reader.length;
-    let mut long = reader.long;
-    let mut found = false;
-    while at < end && at < piece.len() && !found {
-        let byte = piece[at];
-        at += 1;
-        if byte == b'\n' {
-            found = true;
-        } else if length < line.len() {
-            line[length] = byte;
-            length += 1;
-        } else {
-            long = true;
+    // Takes bytes of the piece up to the line's end, or all that are left. Whether the line ended.
+    fn take(&mut self, line: &mut Line) -> bool {
+        let rest = &self.piece[self.at..self.end];
+        match rest.iter().position(|byte| *byte == b'\n') {
+            Some(length) => {
+                line.push(&rest[..length]);
+                self.at += length + 1;
+                true
+            }
+            None => {
+                line.push(rest);
+                self.at = self.end;
+                false
+            }
         }
     }
-    reader.at = at;
-    reader.length = length;
-    reader.long = long;
-    reader.found = found;
-    reader
-}
 
-// Reads a further piece. A read that fails ends the input.
-fn refill<R: Read>(input: &mut R, piece: &mut [u8], mut reader: Reader) -> Reader {
-    let count = match input.read(piece) {
-        Ok(got) => got,
-        Err(_) => 0,
-    };
-    reader.at = 0;
-    reader.end = count;
-    reader.over = count == 0;
-    reader
-}
-
-// The first bytes of a buffer, as many as are used.
-pub fn used(bytes: &[u8], length: usize) -> &[u8] {
-    if length <= bytes.len() {
-        return &bytes[..length];
+    // Reads a further piece, unless the input is over. A read that fails ends the input.
+    fn refill(&mut self) -> bool {
+        if self.is_over {
+            return false;
+        }
+        self.at = 0;
+        self.end = self.reader.read(&mut self.piece).unwrap_or(0);
+        self.is_over = self.end == 0;
+        !self.is_over
     }
-    bytes
-}
-
-pub fn shorter(a: usize, b: usize) -> usize
-    ensures { (result ≤ a) × (result ≤ b) }
-{
-    if a < b { a } else { b }
 }

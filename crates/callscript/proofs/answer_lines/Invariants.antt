@@ -1,10 +1,6 @@
--- `answer_lines` is safe and ends. At every turn the store is one that public calls made: each arm that changes it makes it of that store by one call more. The turns that are left fall. Assumes nothing.
-use Rattle.std.proofs.Common.{◌≤◌}
+-- `answer_lines` is safe and ends. At every turn the store is one that public calls made: each arm that changes it makes it of that store by one call more. Assumes nothing.
 use Rattle.stores.specs.Made.{Made}
 use Rattle.callscript.proofs.answer_lines.Given as goal
 
-abbrev pub invariant-loop-turns : goal.invariant-loop-turns
-invariant-loop-turns g l = Made l.store × (l.turns ≤ 18446744073709551615)
-
-abbrev pub decreases-loop-turns : goal.decreases-loop-turns
-decreases-loop-turns g l = l.turns
+abbrev pub invariant-loop-number : goal.invariant-loop-number
+invariant-loop-number g l = Made l.store
