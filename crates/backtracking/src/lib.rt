@@ -36,7 +36,7 @@ pub fn new_checkpoint(mut store: Assignments) -> Called<Checkpoint>
 }
 
 // Takes a pool's newest update out if it goes, and blanks its place. Gives the variable's link: to the update before it
-// then, and else as it was.
+// then, and else as it was. `goes` is the flag of `pop_if` and `back_if`; an `if` at each call makes each proof longer.
 fn take_if(pool: &mut Pool, goes: bool, link: u16) -> u16
     requires { pool.old.length ≤ 1024 }
     ensures rest { pool.new ≡ pop_if goes pool.old }
@@ -78,7 +78,7 @@ fn undo(store: &mut Assignments, entry: Entry, was: Variable)
     store.pruned = store.pruned.saturating_sub(domains::pruned(kind, old, now));
 }
 
-// The lent slices, and how many pairs are written to them.
+// The lent slices, and how many pairs are written to them. They are two, as `synchronise` is lent them.
 #[derive(Drop)]
 struct Pairs<'a> {
     variables: &'a mut [u16],

@@ -25,7 +25,8 @@ pub struct Update {
     pub previous: u16,
 }
 
-// Updates of all variables, in the order of the trail; what is past the length is blank.
+// Updates of all variables, in the order of the trail; what is past the length is blank. An array with its fill count,
+// handed on by value, as is asked for by name; memory is fixed.
 #[derive(Clone, Copy)]
 pub struct Pool {
     pub updates: [Update; 1024],

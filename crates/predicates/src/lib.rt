@@ -6,6 +6,9 @@ ghost use Rattle.std.specs.Prelude.{◌≡◌};
 ghost use Rattle.predicates.specs.Codes.{code_of};
 ghost use Rattle.predicates.specs.Counts.{counted};
 
+// The three kinds of count are tuple structs of their own with a `new` each, as is asked for by name: one is never passed
+// for another.
+
 // A variable's number.
 #[derive(Clone, Copy, PartialEq, Eq, Debug)]
 pub struct DomainId(pub u16);
@@ -49,7 +52,8 @@ impl TrailPosition {
     }
 }
 
-// The four kinds; a value of this type has no fifth code.
+// The four kinds; a value of this type has no fifth code. The codes are associated constants and the predicates have a
+// constructor for each kind, as is asked for by name.
 #[derive(Clone, Copy, PartialEq, Eq, Debug)]
 pub enum PredicateType {
     LowerBound,
@@ -129,7 +133,8 @@ impl Predicate {
     }
 }
 
-// Why an entry is on the trail: nothing, or the number that the host gave.
+// Why an entry is on the trail: nothing, or the number that the host gave. A reason enum and no `Option`, as is asked for
+// by name.
 #[derive(Clone, Copy, PartialEq, Eq, Debug)]
 pub enum Reason {
     None,

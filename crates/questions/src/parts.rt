@@ -32,7 +32,7 @@ pub fn lower_at(lower: Pool, variable: Variable, position: TrailPosition) -> i32
     lower.value_at(variable.lower, position, variable.initial.lower)
 }
 
-// The same of the upper updates.
+// The same of the upper updates: of the variable's other link and other initial bound, so no parameter tells the two apart.
 pub fn upper_at(upper: Pool, variable: Variable, position: TrailPosition) -> i32
     ensures { result ≡ upper_at upper variable position.0 }
 {

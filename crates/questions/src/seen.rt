@@ -91,6 +91,7 @@ impl<'a> SeenDomain<'a> {
         }
     }
 
+    // "At least" and "at most" are mirror images and differ in every test, so one function for both is no plainer.
     fn at_least(&self, value: i32) -> Option<bool>
         ensures { result ≡ truth PredicateType.LowerBound value self.now }
     {

@@ -57,6 +57,7 @@ impl StoredDomain {
         self.holes.step_down(self.newest, lower, value)
     }
 
+    // The four ways have the Rust's names. The two that tighten a bound are mirror images, which differ in every step.
     fn tighten_lower_bound(&self, value: i32) -> Step
         ensures { result ≡ step_of PredicateType.LowerBound value self.now }
     {

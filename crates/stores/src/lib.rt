@@ -12,7 +12,7 @@ use pools::{Pool, Update};
 use predicates::{Checkpoint, DomainId, Predicate, Reason, TrailPosition};
 use stories::{Entry, Refusal};
 
-// The entries, oldest first; what is past the length is blank.
+// The entries, oldest first; what is past the length is blank. An array with its fill count, as is asked for by name.
 #[derive(Clone, Copy)]
 pub struct Trail {
     pub entries: [Entry; 1024],
@@ -31,7 +31,9 @@ pub struct Variable {
     pub mark: TrailPosition,
 }
 
-// The store. The delimiters are the trail's lengths at which the open checkpoints were opened.
+// The store. The delimiters are the trail's lengths at which the open checkpoints were opened. That calls made it, `Made`, is
+// a premise of the calls and no invariant of the type: `num_trail_entries` and `get_pruned_value_count` take any store.
+// Variables and delimiters stand beside their number: memory is fixed, and their places are read where they are.
 #[derive(Clone, Copy)]
 pub struct Assignments {
     pub trail: Trail,
