@@ -11,7 +11,7 @@ use borrow.Author.Tests.{lt-leb, le-ltb}
 use Rattle.domains.specs.Choice.{pick}
 use Rattle.stores.specs.declared.Assignments.{Assignments}
 use Rattle.stories.specs.declared.Refusal.TheVariants.{NotLower, NoRoom}
-use Rattle.stories.specs.declared.SynchroniseAnswer.TheVariants.{Unfixed, Refused}
+use Rattle.std.specs.Prelude.{Ok, Err}
 use Rattle.stores.specs.Calls.{entries_above, unfixed, synchronise_answer}
 use Rattle.stores.proofs.Straight.{tidy}
 use Rattle.stores.proofs.History.{straight}
@@ -38,7 +38,7 @@ run_law number s before after = (run_stores s before after, run_texts number s b
 
 pub bad_law : BadLaw
 unfolding line_store line_text command_store command_reply command_pairs command_text
-bad_law number s line bad = (ap (command_store s (values_of line)) bad, ap (command_text number s (values_of line)) bad)
+bad_law number s line bad = (ap (command_store s (values_of line)) bad, ap (command_text number s (values_of line)) bad, refl)
 
 pub long_law : LongLaw
 long_law line long = rw (lt-leb (length line) 200 long) refl
@@ -52,7 +52,7 @@ room_law s made k e =
     let enough : ltb 1024 (entries_above s k) ≡ false = le-ltb 1024 (entries_above s k) (omega (arith, (tidy (straight made)).entries)) in
     go (leb s.checkpoint k) (rw enough at e)
   where
-    go : (high : Bool) → pick high (Refused NotLower) (Unfixed (length (unfixed (entries_above s k) s))) ≡ Refused NoRoom → ⊥
+    go : (high : Bool) → pick high (Err NotLower) (Ok (length (unfixed (entries_above s k) s))) ≡ Err NoRoom → ⊥
     go true q = never cc
     go false q = never cc
 

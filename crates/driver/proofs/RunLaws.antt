@@ -51,6 +51,20 @@ unfolding ended
 few_lines [] = omega arith
 few_lines (l ∷ lines) = rw (length-append l) (omega (arith, few_lines lines))
 
+-- the end of the line in what is left of an input is its end in the input
+pub ends_past : {input left : List ℕ} {from size : ℕ} → left ≡ drop from input → from ≤ length input → EndsAt left 0 size → EndsAt input from (from + size)
+ends_past {input} {left} {from} {size} is inside e =
+    let same = (λ (k : ℕ). ap (λ (l : List ℕ). get_or l k 0) is ∙ get_or-drop from input k 0) in
+    let long : length left ≡ length input - from = ap length is ∙ length-drop from input in
+    record {
+      later = omega arith;
+      inside = λ h. omega (arith, e.inside (omega arith), long);
+      unbroken = λ k low high lf.
+          let place : from + (k - from) ≡ k = omega arith in
+          e.unbroken (k - from) (omega arith) (omega arith) (same (k - from) ∙ ap (λ (n : ℕ). get_or input n 0) place ∙ lf);
+      broken = λ there. sym (same size) ∙ e.broken (omega (arith, long));
+    }
+
 -- ---- the lines for which there is room
 
 room_inside : (lines : List (List ℕ)) (number : ℕ) (s : Assignments) (room : ℕ) → length (ended (room_for number s room lines)) ≤ length (ended lines)

@@ -1,4 +1,3 @@
 pub mod Lines
-pub mod Parts
 pub mod Promises
 pub mod Runs

@@ -3,6 +3,8 @@
 #![tactic(auto)]
 
 mod answering;
+mod calls_of;
+mod line_of;
 mod lines_of;
 mod questions_of;
 

@@ -1,81 +1,65 @@
-// The questions of a line. Each takes the variable's record and the pools that it reads, as the whole store is large.
-ghost use Rattle.std.specs.Prelude.{◌≡◌, ◌<◌};
-ghost use Rattle.pools.specs.declared.Pool.{Pool};
-ghost use Rattle.driver.specs.Parts.{about, truth_in, truth_at, shown_in};
+// The questions of a line. Each is asked of a store that is lent, as the whole store is large.
+ghost use Rattle.std.specs.Prelude.{◌≡◌};
+ghost use Rattle.stores.specs.Made.{Made};
+ghost use Rattle.stories.specs.Questions.{truth};
+ghost use Rattle.questions.specs.Answers.{ask_now, ask_at};
+ghost use Rattle.questions.specs.Parts.{found_in};
+ghost use Rattle.driver.specs.Lines.{shown, show_reply};
 
-use pools::Pool;
 use predicates::{DomainId, Predicate, TrailPosition};
-use replies::Reply;
+use questions::SeenDomain;
+use replies::{LineRefusal, Reply};
 use stores::{Assignments, Variable};
+use stories::Refusal;
 
-// The number of the refusal NO_VARIABLE.
-const NO_VARIABLE: u8 = 1;
-
-// Where the variable's record stands; for a number that no variable has, any place.
-pub fn place_of(domain: DomainId) -> usize
-    ensures { (result < 256) × (domain.0 < 256 → result ≡ domain.0) }
+// The record of a variable.
+#[tactic(auto, using(questions::proofs::Asking::few))]
+pub fn find(store: &Assignments, domain: DomainId) -> Result<Variable, Refusal>
+    requires { Made store.now }
+    ensures { result ≡ found_in store.now.variables store.now.domains domain.0 }
 {
-    let id = domain.0 as usize;
-    if id < Assignments::MAX_VARIABLES {
-        id
-    } else {
-        0
+    let id = usize::from(domain.0);
+    if store.domains <= id {
+        return Err(Refusal::NoVariable);
     }
+    Ok(store.variables[id])
 }
 
 // `ask`
-pub fn ask(variable: Variable, domains: usize, holes: Pool, predicate: Predicate) -> Reply
-    ensures { result ≡ about domains predicate.domain.0 (truth_in holes predicate.kind predicate.value variable) }
+#[tactic(auto, unfolding(stores::specs::Store::domain_of))]
+pub fn ask(store: &Assignments, predicate: Predicate) -> Result<Option<bool>, Refusal>
+    requires { Made store.now }
+    ensures { result ≡ ask_now (truth predicate.kind predicate.value) store.now predicate.domain.0 }
 {
-    if domains <= predicate.domain.0 as usize {
-        return Reply::Refused(NO_VARIABLE);
-    }
-    replies::of_truth(questions::truth_now(
-        holes,
-        variable.holes,
-        variable.bounds,
-        predicate.kind,
-        predicate.value,
-    ))
+    let variable = find(store, predicate.domain)?;
+    Ok(SeenDomain::now(&store.holes, variable).truth(predicate.kind, predicate.value))
 }
 
 // `at`
+#[tactic(auto, unfolding(stores::specs::Positions::domain_at))]
 pub fn ask_at(
-    variable: Variable,
-    domains: usize,
-    lower: Pool,
-    upper: Pool,
-    holes: Pool,
-    position: TrailPosition,
+    store: &Assignments,
     predicate: Predicate,
-) -> Reply
-    ensures { result ≡ about domains predicate.domain.0 (truth_at lower upper holes position.0 predicate.kind predicate.value variable) }
+    position: TrailPosition,
+) -> Result<Option<bool>, Refusal>
+    requires { Made store.now }
+    ensures { result ≡ ask_at (truth predicate.kind predicate.value) store.now predicate.domain.0 position.0 }
 {
-    if domains <= predicate.domain.0 as usize {
-        return Reply::Refused(NO_VARIABLE);
-    }
-    let bounds = questions::bounds_at(lower, upper, variable, position);
-    replies::of_truth(questions::truth_at(
-        holes,
-        variable.holes,
-        bounds,
-        position,
-        predicate.kind,
-        predicate.value,
-    ))
+    let variable = find(store, predicate.domain)?;
+    let seen = SeenDomain::at(store.lower, store.upper, &store.holes, variable, position);
+    Ok(seen.truth(predicate.kind, predicate.value))
 }
 
 // `show`
-pub fn show(variable: Variable, domains: usize, domain: DomainId) -> Reply
-    ensures { (holes : Pool) → result ≡ about domains domain.0 (shown_in holes variable) }
+#[tactic(auto, unfolding(stores::specs::Store::domain_of))]
+pub fn show(store: &Assignments, domain: DomainId) -> Result<Reply, LineRefusal>
+    requires { Made store.now }
+    ensures { result ≡ show_reply (ask_now shown store.now domain.0) }
 {
-    if domains <= domain.0 as usize {
-        return Reply::Refused(NO_VARIABLE);
-    }
-    let bounds = variable.bounds;
-    Reply::Shown {
-        lower: bounds.lower,
-        upper: bounds.upper,
-        left: questions::values_left(bounds),
-    }
+    let variable = find(store, domain)?;
+    Ok(Reply::Shown {
+        lower: variable.bounds.lower,
+        upper: variable.bounds.upper,
+        left: SeenDomain::now(&store.holes, variable).left(),
+    })
 }

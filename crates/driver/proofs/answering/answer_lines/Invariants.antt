@@ -5,10 +5,12 @@ use lib.ListN.{length}
 use Rattle.driver.proofs.RunLaws.{Going}
 use Rattle.driver.proofs.answering.answer_lines.Given as goal
 
-abbrev pub invariant-loop-variables : goal.invariant-loop-variables
-invariant-loop-variables l =
-    Going l.initial.store l.first l.input l.fn.out l.store l.number l.read l.writer.length l.writer.buffer.now × (l.writer.buffer.ghost_name ≡ l.initial.writer.buffer.ghost_name) × (length l.variables ≡ 1024) × (length l.lowers ≡ 1024)
+abbrev pub invariant-loop-writer : goal.invariant-loop-writer
+invariant-loop-writer l =
+    Going l.fn.store l.first l.input l.fn.out l.done.store l.done.number l.done.read l.writer.length l.writer.buffer.now
+    × (l.writer.buffer.ghost_name ≡ l.initial.writer.buffer.ghost_name)
+    × (l.done.written ≡ l.writer.length)
 
-abbrev pub decreases-loop-variables : goal.decreases-loop-variables
-decreases-loop-variables l =
-    length l.input - l.read
+abbrev pub decreases-loop-writer : goal.decreases-loop-writer
+decreases-loop-writer l =
+    length l.input - l.done.read
