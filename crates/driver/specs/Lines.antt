@@ -27,6 +27,7 @@ use Rattle.replies.specs.Text.{reply_text}
 abbrev pub shown : Domain → Reply
 shown d = reply.Shown d.lower d.upper (left_of d)
 
+-- a `show` by these, or by its refusal
 abbrev pub show_reply : Result Reply Refusal → Result Reply LineRefusal
 show_reply answer = answered (λ (told : Reply). told) answer
 

@@ -13,7 +13,7 @@ use predicates::{Checkpoint, DomainId, Predicate, Reason};
 use stores::Assignments;
 use stories::Refusal;
 
-// Room for the pairs of a `back`: no trail has more entries.
+// Room for the pairs of a `back`: no trail has more entries. There are two arrays, since `synchronise` is lent two slices.
 #[derive(Drop)]
 pub struct Pairs {
     pub variables: [u16; 1024],
