@@ -11,11 +11,8 @@ use lines::{field, field_count, read_integer};
 pub fn read_list(line: &[u8]) -> Option<Command>
     ensures { result ≡ list_of (fields line.now) }
 {
-    let count = field_count(line);
-    let mut i = 1;
-    while i < count {
-        let _value = read_integer(field(line, i))?;
-        i += 1;
+    for place in 1..field_count(line) {
+        let _value = read_integer(field(line, place))?;
     }
     Some(Command::List)
 }
@@ -25,8 +22,7 @@ pub fn list_values(line: &[u8], out: &mut [i32]) -> usize
     ensures { Copied (values_of line.now) 0 out.old out.new result }
 {
     let count = field_count(line);
-    let mut written = 0;
-    while written < out.len() {
+    for written in 0..out.len() {
         if count <= written + 1 {
             return written;
         }
@@ -34,7 +30,6 @@ pub fn list_values(line: &[u8], out: &mut [i32]) -> usize
             return written;
         };
         out[written] = value;
-        written += 1;
     }
-    written
+    out.len()
 }

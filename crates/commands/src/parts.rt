@@ -3,7 +3,7 @@ ghost use Rattle.std.specs.Prelude.{◌≡◌};
 ghost use Rattle.lines.specs.Fields.{fields};
 ghost use Rattle.commands.specs.Parts.{predicate_of, read_kind, read_reason, claim_at};
 
-use lines::{field, is_word, read_integer, read_natural};
+use lines::{field, read_integer, read_natural};
 use predicates::{DomainId, Predicate, PredicateType, Reason};
 
 // A predicate as its three fields spell it: the variable still has its whole number.
@@ -31,29 +31,23 @@ impl From<Claim> for Predicate {
 fn read_kind(field: &[u8]) -> Option<PredicateType>
     ensures { result ≡ read_kind field.now }
 {
-    if is_word(field, b"ge") {
-        return Some(PredicateType::LowerBound);
+    match field {
+        b"ge" => Some(PredicateType::LowerBound),
+        b"ne" => Some(PredicateType::NotEqual),
+        b"eq" => Some(PredicateType::Equal),
+        b"le" => Some(PredicateType::UpperBound),
+        _ => None,
     }
-    if is_word(field, b"ne") {
-        return Some(PredicateType::NotEqual);
-    }
-    if is_word(field, b"eq") {
-        return Some(PredicateType::Equal);
-    }
-    if is_word(field, b"le") {
-        return Some(PredicateType::UpperBound);
-    }
-    None
 }
 
 // The reason that the field spells: `-` for none, or a number.
 pub fn read_reason(field: &[u8]) -> Option<Reason>
     ensures { result ≡ read_reason field.now }
 {
-    if is_word(field, b"-") {
-        return Some(Reason::None);
+    match field {
+        b"-" => Some(Reason::None),
+        _ => Some(Reason::Given(read_natural(field)?)),
     }
-    Some(Reason::Given(read_natural(field)?))
 }
 
 // The predicate that three fields of the line spell, each given by its place.

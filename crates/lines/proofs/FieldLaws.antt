@@ -1,7 +1,8 @@
 -- The fields of a line are its one parting at the tabs: the byte at a place says how they go on from there.
 use Prim.Native.Nat.{ℕ, zero, suc, ◌+◌, ◌-◌, ◌<◌, ◌≤◌}
-use mathlib.Core.Path.{◌≡◌, refl, ap, ◌∙◌}
+use mathlib.Core.Path.{◌≡◌, refl, sym, ap, ◌∙◌}
 use mathlib.Core.List.{List, [], ◌∷◌, ◌++◌}
+use mathlib.Core.Bool.{true, false}
 use mathlib.Core.Logic.{⊎_elim}
 use native.Mathlib.Numerals.{add-one}
 use native.Mathlib.Omega.{arith}
@@ -9,6 +10,11 @@ use lib.ListN.{length, get_or, take, drop, length-drop, drop_of_length-le}
 use lib.Seq.{take-suc, take_all, drop-cons, append_snoc}
 use lib.Dec.{eqb}
 use borrow.Author.Tests.{eq-eqb, ne_eqb, eqb-true, eqb-false}
+use denote.Ref.{Bor}
+use Rattle.std.specs.Prelude.{Option, Some, None, option_map, slice_get}
+use Rattle.std.specs.Option.{unwrap_or}
+use Rattle.std.specs.List.{count_by, slice_split, onto_first}
+use Rattle.std.proofs.lemmas.List.Splits.{length-slice_split, slice_split-cons_yes, slice_split-cons_no}
 use Rattle.lines.specs.Fields.{first_field, later_fields, fields, joined, Tabless, AllTabless}
 use Rattle.lines.proofs.Cases.{true_or_false}
 
@@ -99,3 +105,32 @@ later_tabless (b ∷ line) =
 
 pub fields_tabless : (line : List ℕ) → AllTabless (fields line)
 fields_tabless line = (first_tabless line, later_tabless line)
+
+-- the fields are what `split` gives of the line, one more than the tabs
+fields_tab : (b : ℕ) (line : List ℕ) → eqb b 9 ≡ true → fields (b ∷ line) ≡ [] ∷ fields line
+fields_tab b line tab = rw tab refl
+
+fields_byte : (b : ℕ) (line : List ℕ) → eqb b 9 ≡ false → fields (b ∷ line) ≡ onto_first b (fields line)
+fields_byte b line other = rw other refl
+
+pub fields_split : (line : List ℕ) → fields line ≡ slice_split (λ (b : ℕ). eqb b 9) line
+fields_split [] = refl
+fields_split (b ∷ line) =
+    let rest = fields_split line in
+    ⊎_elim
+    (λ tab. fields_tab b line tab ∙ ap (λ (l : List (List ℕ)). [] ∷ l) rest ∙ sym (slice_split-cons_yes (λ (b : ℕ). eqb b 9) b line tab))
+    (λ other. fields_byte b line other ∙ ap (onto_first b) rest ∙ sym (slice_split-cons_no (λ (b : ℕ). eqb b 9) b line other))
+    (true_or_false (eqb b 9))
+
+pub fields_counted : (line : List ℕ) → length (fields line) ≡ count_by (λ (b : ℕ). eqb b 9) line + 1
+fields_counted line = ap length (fields_split line) ∙ length-slice_split (λ (b : ℕ). eqb b 9) line
+
+-- a text that is found at a place of a list, or no bytes, is what the list has there
+got : (texts : List (List ℕ)) (place : ℕ) → unwrap_or (slice_get texts place) [] ≡ get_or texts place []
+got [] place = refl
+got (text ∷ texts) zero = refl
+got (text ∷ texts) (suc place) = got texts place
+
+pub text_found : (found : Option (Bor (List ℕ))) (none : Bor (List ℕ)) (texts : List (List ℕ)) (place : ℕ) → option_map (λ (x : Bor (List ℕ)). x.now) found ≡ slice_get texts place → none.now ≡ [] → (unwrap_or found none).now ≡ get_or texts place []
+text_found None none texts place e empty = empty ∙ ap (λ (o : Option (List ℕ)). unwrap_or o []) e ∙ got texts place
+text_found (Some text) none texts place e empty = ap (λ (o : Option (List ℕ)). unwrap_or o []) e ∙ got texts place

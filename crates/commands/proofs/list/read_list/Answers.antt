@@ -4,7 +4,7 @@ use Rattle.lines.specs.Fields.{fields}
 use Rattle.commands.proofs.ValueLaws.{texts_at}
 use Rattle.commands.proofs.list.read_list.Goals as goal
 
-pub loop-i-preserved : goal.loop-i-preserved
-loop-i-preserved c =
+pub loop-place-preserved : goal.loop-place-preserved
+loop-place-preserved c =
     let texts = fields c.args.line.now in
-    simp (texts_at texts c.loop-i.i (omega arith), ← c.field.ensures, ← c.read_integer.ensures, c.in_ok-_value.was) at c.loop-i.invariant
+    simp (texts_at texts c.loop-place.place (omega arith), ← c.field.ensures, ← c.read_integer.ensures, c.in_ok-_value.was) at c.loop-place.invariant
