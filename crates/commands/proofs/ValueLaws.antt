@@ -1,6 +1,7 @@
 -- The values of a list are read and copied one after the other: what is left at a place is the value there and what is left at the next.
 use Prim.Native.Nat.{ℕ, suc, ◌+◌, ◌<◌, ◌≤◌}
-use mathlib.Core.Path.{◌≡◌, refl, sym}
+use mathlib.Core.Path.{◌≡◌, refl, sym, ap}
+use mathlib.Core.Bool.{Bool, true, false, ◌&&◌, cond}
 use mathlib.Core.List.{List, [], ◌∷◌}
 use native.Mathlib.Numerals.{add-one}
 use native.Mathlib.Omega.{arith}
@@ -11,7 +12,12 @@ use lib.Seq.{drop-cons, sets, set_out, sets-eq, take-append_seam}
 use mir.Syntax.{w32}
 use mir.Val.{to_z, of_z}
 use mir.Facts.{to_z-of_z}
-use Rattle.commands.specs.Values.{Copied}
+use Rattle.std.specs.Prelude.{Some, None, is_some}
+use Rattle.std.specs.Bool.{then_some}
+use Rattle.std.specs.List.{list_all}
+use Rattle.lines.specs.Reading.{read_integer}
+use Rattle.commands.specs.declared.command.Command.TheVariants as command
+use Rattle.commands.specs.Values.{all_values, Copied}
 
 -- an i32 that is passed on is the same number, since 32 bits hold it
 pub kept : (z : ℤ) → mag z < 2147483648 → to_z w32 (of_z w32 z) ≡ z
@@ -46,3 +52,12 @@ pub copied_whole : {values before after : List ℤ} {next : ℕ} → Copied valu
 copied_whole {values} {before} {after} {next} copied room =
     let all : next ≡ length values = omega (arith, copied.past) in
     rw (all, copied.written, sets-eq values before 0 (omega arith)) (take-append_seam values _)
+
+-- every text is a value, as `all` tells it
+pub all_told : (texts : List (List ℕ)) → list_all (λ (text : List ℕ). is_some (read_integer text)) texts ≡ all_values texts
+all_told [] = refl
+all_told (text ∷ texts) = ap (λ (rest : Bool). is_some (read_integer text) && rest) (all_told texts)
+
+pub list_told : (t : Bool) → then_some t command.List ≡ cond t (Some command.List) None
+list_told true = refl
+list_told false = refl

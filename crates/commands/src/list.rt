@@ -11,16 +11,18 @@ use lines::{field, field_count, read_integer};
 pub fn read_list(line: &[u8]) -> Option<Command>
     ensures { result ≡ list_of (fields line.now) }
 {
-    for place in 1..field_count(line) {
-        let _value = read_integer(field(line, place))?;
-    }
-    Some(Command::List)
+    // One pass: `field` would begin again at each place.
+    let mut values = line.split(|byte| *byte == b'\t').skip(1);
+    values
+        .all(|field| read_integer(field).is_some())
+        .then_some(Command::List)
 }
 
 // Writes the values of the line, as many as there is room for, and answers how many these are. For a list line 100 places are enough.
 pub fn list_values(line: &[u8], out: &mut [i32]) -> usize
     ensures { Copied (values_of line.now) 0 out.old out.new result }
 {
+    // An iterator over the fields beside `out` would be one pass, but a `for` over it, left at the first field that is no value, has no chain to prove it by.
     let count = field_count(line);
     for written in 0..out.len() {
         if count <= written + 1 {
