@@ -12,7 +12,7 @@ use replies::{LineRefusal, Reply};
 use stores::{Assignments, Variable};
 use stories::Refusal;
 
-// The record of a variable.
+// The record of a variable, read where it is: `questions::find` is handed the array of records, a copy of 6,144 bytes.
 #[tactic(auto, using(questions::proofs::Asking::few))]
 pub fn find(store: &Assignments, domain: DomainId) -> Result<Variable, Refusal>
     requires { Made store.now }

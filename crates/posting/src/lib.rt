@@ -87,7 +87,7 @@ pub fn consider(store: &Assignments, predicate: Predicate) -> Result<Option<Boun
 }
 
 // Adds an update to a pool, where there is one. Gives the variable's link: to that update then, and else as it was.
-// `happened` is the flag of `push_if` and `link_if`.
+// `happened` is the flag of `push_if` and `link_if`; an `Option` would leave out the link that is kept where there is none.
 fn add_if(pool: &mut Pool, happened: bool, update: Update) -> u16
     requires { pool.old.length < 1024 }
     ensures rest { pool.new ≡ push_if happened pool.old update }
