@@ -36,7 +36,7 @@ pub fn new_checkpoint(mut store: Assignments) -> Called<Checkpoint>
 }
 
 // Takes a pool's newest update out if it goes, and blanks its place. Gives the variable's link: to the update before it
-// then, and else as it was. `goes` is the flag of `pop_if` and `back_if`; an `if` at each call makes each proof longer.
+// then, and else as it was. `goes` is the flag of `pop_if` and `back_if`.
 fn take_if(pool: &mut Pool, goes: bool, link: u16) -> u16
     requires { pool.old.length ≤ 1024 }
     ensures rest { pool.new ≡ pop_if goes pool.old }

@@ -1,5 +1,6 @@
 -- A store answers and shows what the rules come to for the one variable: a post that makes an entry makes of the domain what the rules
 -- make of it, and every other post leaves the store alone; creating is such entries from a dense domain on.
+use Rattle.integers.proofs.Still.{no_distance}
 use Rattle.predicates.specs.declared.DomainId.{DomainId}
 use Rattle.std.specs.Prelude.{Result, Ok}
 use Rattle.stories.specs.declared.Refusal.{Refusal}
@@ -7,7 +8,7 @@ use Prim.Native.Nat.{ℕ, zero, suc, ◌+◌, ◌≤◌, ◌<◌}
 use mathlib.Core.Bool.{Bool, true, false, ◌&&◌, and-true}
 use mathlib.Core.Path.{◌≡◌, refl, sym, ap, ◌∙◌}
 use mathlib.Core.List.{List, [], ◌∷◌, foldl}
-use lib.IntN.{ℤ, pos, suc_ℤ, neg_ℤ, ◌-ℤ◌}
+use lib.IntN.{ℤ, pos, suc_ℤ}
 use lib.ListN.{length, get_or}
 use lib.Seq.{get_or-set_same}
 use lib.Dec.{leb}
@@ -17,8 +18,7 @@ use native.Mathlib.Omega.{arith}
 use mir.Syntax.{w32}
 use mir.Val.{SFits}
 use Rattle.integers.specs.Integers.{eq_z}
-use Rattle.integers.proofs.Order.{integers, add=, neg=, abs=, fits→, →fits}
-use Rattle.integers.specs.Distance.{distance}
+use Rattle.integers.proofs.Order.{integers, fits→, →fits}
 use Rattle.predicates.specs.declared.PredicateType.{PredicateType}
 use Rattle.predicates.specs.declared.PredicateType.TheVariants.{LowerBound, NotEqual, UpperBound}
 use Rattle.predicates.specs.declared.Reason.TheVariants.{None}
@@ -119,10 +119,6 @@ run_law s m x there (p ∷ ps) i =
 -- ---- creating
 
 -- an entry that moves no bound adds 1 to the count if it is a not-equal, and else nothing
-no_distance : (z : ℤ) → distance z z ≡ 0
-unfolding distance
-no_distance z = omega (arith, abs= (z -ℤ z), add= z (neg_ℤ z), neg= z)
-
 pruned_still : (k : PredicateType) (b : Bounds) → pruned_by k b b ≡ pick (is_not_equal k) 1 0
 unfolding pruned_by
 pruned_still k b =

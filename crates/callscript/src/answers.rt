@@ -7,7 +7,7 @@ use std::{fmt, io};
 use stores::Assignments;
 use stories::{Entry, Refusal};
 
-// The refusal of a line that cannot be read.
+// What is printed for a line that cannot be read. It is no refusal of the store, and callscript prints by itself.
 const BAD_LINE: u8 = 14;
 
 // The place of a line's answer: where it is printed, and the line's number. It is used up by the one answer that the line has.

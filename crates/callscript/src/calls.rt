@@ -97,7 +97,7 @@ fn new_checkpoint(store: &mut Assignments) -> Result<Checkpoint, Refusal>
     opened.answer
 }
 
-// Goes back, with lent slices of that many places, and prints what was written to them.
+// Goes back, with lent slices of that many places, and prints what was written to them. The call is lent two slices.
 fn synchronise<W: Write>(
     answer: Answer<'_, W>,
     store: &mut Assignments,

@@ -1,4 +1,5 @@
-// The fields of a line, taken one after the other, each as what the command wants it to spell.
+// The fields of a line, taken one after the other, each as what the command wants it to spell. Apart from `commands`, so that a
+// mistake in what the driver reads is not in both programs.
 use crate::list_values::Values;
 use predicates::{Checkpoint, DomainId, Predicate, PredicateType, Reason, TrailPosition};
 use std::str::Split;

@@ -165,7 +165,8 @@ struct Chain {
 }
 
 impl Chain {
-    // The updates that a link leads to. Links lead down, so they are no more than a pool has. The walk of pools is its own.
+    // The updates that a link leads to. Links lead down, so they are no more than a pool has. It follows them
+    // by itself: a fault in the walk of pools is then not in what is printed of it.
     fn of(pool: &Pool, newest: u16) -> Self {
         let mut updates = [Update::blank(); 1024];
         let mut count = 0;

@@ -22,7 +22,8 @@ pub fn read_list(line: &[u8]) -> Option<Command>
 pub fn list_values(line: &[u8], out: &mut [i32]) -> usize
     ensures { Copied (values_of line.now) 0 out.old out.new result }
 {
-    // An iterator over the fields beside `out` would be one pass, but a `for` over it, left at the first field that is no value, has no chain to prove it by.
+    // A `for` over `out.iter_mut()` beside the fields compiles, but its proof stays open where it is left at a field that is no value:
+    // no law tells what the iterator has written by then.
     let count = field_count(line);
     for written in 0..out.len() {
         if count <= written + 1 {

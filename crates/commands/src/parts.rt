@@ -50,7 +50,7 @@ pub fn read_reason(field: &[u8]) -> Option<Reason>
     }
 }
 
-// The predicate that three fields of the line spell, each given by its place.
+// The predicate that three fields of the line spell, each given by its place, so that no sum of places can pass the last one.
 pub fn read_claim(line: &[u8], first: usize, second: usize, third: usize) -> Option<Claim>
     ensures { result ≡ claim_at (fields line.now) first second third }
 {

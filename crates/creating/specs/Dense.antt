@@ -4,8 +4,7 @@ use Prim.Native.Nat.{ℕ, suc, ◌+◌, ◌<◌}
 use Rattle.std.specs.Prelude.{true, ◌≡◌, ℤ, neg_ℤ, ◌+ℤ◌, length, set}
 use Rattle.std.proofs.Common.{◌∙◌, arith, lt-ltb}
 use Rattle.std.proofs.Math.Seq.{get_or-set_same, set-set}
-use Rattle.integers.proofs.Order.{add=, neg=, abs=}
-use Rattle.integers.specs.Distance.{distance}
+use Rattle.integers.proofs.Still.{no_distance}
 use Rattle.predicates.specs.declared.PredicateType.TheVariants.{LowerBound, UpperBound}
 use Rattle.domains.specs.declared.Bounds.{Bounds}
 use Rattle.domains.specs.Domain.{pruned_by}
@@ -36,11 +35,6 @@ dense s b = record {
   checkpoint = s.checkpoint;
   pruned = s.pruned;
 }
-
--- a number is no distance away from itself
-pub no_distance : (z : ℤ) → distance z z ≡ 0
-unfolding distance
-no_distance z = omega (arith, abs= (z +ℤ neg_ℤ z), add= z (neg_ℤ z), neg= z)
 
 module _ (s : Assignments) (b : Bounds) (there : s.domains < length s.variables) where
   still : s.pruned + pruned_by LowerBound b b + pruned_by UpperBound b b ≡ s.pruned

@@ -20,7 +20,7 @@ use Rattle.stores.specs.Store.{no_variable, variable_of, domain_of, entered, pus
 use Rattle.stories.specs.Calls.{not_equal, unlisted, missing, span_of}
 use Rattle.stores.specs.Calls.{posted, removed_all}
 use Rattle.creating.specs.Parts.{without_reason}
-use Rattle.creating.specs.Dense.{no_distance}
+use Rattle.integers.proofs.Still.{no_distance}
 
 -- ---- one removal
 

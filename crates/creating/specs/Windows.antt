@@ -7,8 +7,8 @@ use Rattle.integers.proofs.Order.{integers}
 use Rattle.integers.specs.Distance.{distance}
 use Rattle.domains.specs.Domain.{has}
 use Rattle.domains.proofs.Tests.{by_cases}
-use Rattle.pools.proofs.RunLaws.{apart}
-use Rattle.creating.specs.Dense.{no_distance}
+use Rattle.pools.proofs.RunLaws.{apart, set_mark}
+use Rattle.integers.proofs.Still.{no_distance}
 
 -- v is one of the 8,192 values from a value on
 abbrev pub Within : ℤ → ℤ → Type 0
@@ -27,14 +27,6 @@ same_place from v w h g = go (eqb (distance from v) (distance from w)) refl (eq_
     go true p false q = let same = eqb-true _ _ p in absurd (omega (integers, apart from v h, apart from w g))
     go false p true q = let same : v ≡ w = omega integers in absurd (eqb-false _ _ p (ap (distance from) same))
     go false p false q = refl
-
--- a mark that is set stays set, and one more is
-set_mark : (marks : List Bool) (r k : ℕ) → r < length marks → get_or (set marks r true) k false ≡ (eqb k r || get_or marks k false)
-set_mark marks r k h = go (eqb k r) refl
-  where
-    go : (t : Bool) → eqb k r ≡ t → get_or (set marks r true) k false ≡ (t || get_or marks k false)
-    go true e = ap (λ (i : ℕ). get_or (set marks r true) i false) (eqb-true k r e) ∙ get_or-set_same marks r true false h
-    go false e = get_or-set_other marks r k true false (eqb-false k r e)
 
 -- a value is marked, or still among those to come
 module _ (from w v : ℤ) (marks : List Bool) (rest : List ℤ) (in_window : Within from v) where

@@ -78,7 +78,7 @@ fn next_number(store: &Assignments, bounds: Bounds) -> Result<DomainId, Refusal>
     if 0 < store.checkpoint {
         return Err(Refusal::NotRoot);
     }
-    if bounds.upper < bounds.lower {
+    if bounds.is_empty() {
         return Err(Refusal::BadDomain);
     }
     let domains = store.domains;

@@ -24,7 +24,7 @@ impl Bounds {
     }
 }
 
-// What a post comes to, before anything is recorded.
+// What a post comes to, before anything is recorded: three cases, as `step_of` has them.
 #[derive(Clone, Copy, PartialEq, Eq, Debug)]
 pub enum Step {
     // It does nothing.
@@ -35,6 +35,7 @@ pub enum Step {
     Moves(Bounds),
 }
 
+// By the Rust's name.
 pub fn is_not_equal_predicate(kind: PredicateType) -> bool
     ensures { result ≡ is_not_equal kind }
 {

@@ -38,6 +38,7 @@ pub fn answer_lines(store: Assignments, first: u64, input: &[u8], out: &mut [u8]
         written: 0,
     };
     let mut writer = Writer::new(out, 0);
+    // No count ends this: it goes on as long as there is a line and room for its answer.
     while LONGEST_ANSWER <= writer.room() {
         let end = line_end(input, done.read);
         if end == input.len() {

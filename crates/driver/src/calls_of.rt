@@ -1,4 +1,5 @@
-// The calls of a line that change the store, each made on a store that is lent.
+// The calls of a line that change the store, each made on a store that is lent: the call takes it by value, and what comes back
+// is put where it was. A method of `Called` for that one assignment would be no plainer.
 ghost use Rattle.std.specs.Prelude.{◌≡◌, Some};
 ghost use Rattle.stores.specs.Calls.{grow_answer, grow_store, list_answer, list_store, post_answer, post_store, open_answer, open_store, synchronise_answer, synchronise_store, pairs_of};
 ghost use Rattle.stores.specs.Made.{Made};

@@ -54,7 +54,8 @@ impl<'a> Writer<'a> {
         }
     }
 
-    // The number's spelling: that of its tenth, and the last digit.
+    // The number's spelling: that of its tenth, and the last digit. By hand and not by `Display`, since the promise names the
+    // bytes that stand in the buffer then.
     pub fn put_natural(&mut self, number: u64)
         ensures { Wrote self.old (spelled number) self.new }
     {

@@ -79,7 +79,7 @@ mirrored from v r p = record { within = p.within; here = λ k h. p.here k h ∙ 
     turned k false e = sym (omega (integers, add= v (pos k), down= from k))
 
 -- a mark that is set stays set, and one more is
-set_mark : (marks : List Bool) (r k : ℕ) → r < length marks → get_or (set marks r true) k false ≡ (eqb k r || get_or marks k false)
+pub set_mark : (marks : List Bool) (r k : ℕ) → r < length marks → get_or (set marks r true) k false ≡ (eqb k r || get_or marks k false)
 set_mark marks r k h = go (eqb k r) refl
   where
     go : (t : Bool) → eqb k r ≡ t → get_or (set marks r true) k false ≡ (t || get_or marks k false)

@@ -17,7 +17,7 @@ use walks::Updates;
 const WINDOW: usize = 1024;
 
 // A bound that moved, or a value that was removed: the value, the entry that did it, and the variable's update before
-// it, counted from 1, with 0 for none.
+// it, counted from 1, with 0 for none. The pool is shared and memory is fixed, so what is before it is told by its place.
 #[derive(Clone, Copy, PartialEq, Eq, Debug)]
 pub struct Update {
     pub value: i32,
@@ -127,7 +127,8 @@ impl Pool {
         first_clear(&self.marks(newest, place)).min(most)
     }
 
-    // Where a lower bound that becomes `from` comes to rest, with these values as holes.
+    // Where a lower bound that becomes `from` comes to rest, with these values as holes. This and `step_down` are mirror images,
+    // which share what tells the steps.
     pub fn step_up(self, newest: u16, upper: i32, from: i32) -> i32
         requires { has (values_of (chain_of self.updates newest)) upper ≡ true → upper <ℤ pos 2147483647 }
         ensures { result ≡ raised (values_of (chain_of self.updates newest)) upper from }
@@ -154,7 +155,8 @@ impl Pool {
     }
 }
 
-// How many values there are from `from` up to `to`.
+// How many values there are from `from` up to `to`, as a number of steps. Bounds made only to be asked for their width would be
+// no plainer.
 fn span(from: i32, to: i32) -> usize
     ensures { result ≡ width from to }
 {

@@ -19,7 +19,7 @@ use stories::{Entry, Refusal};
 fn unless_emptied<T: Copy>(bounds: Bounds, answer: T) -> Result<T, Refusal>
     ensures { result ≡ unless_emptied bounds answer }
 {
-    if bounds.upper < bounds.lower {
+    if bounds.is_empty() {
         Err(Refusal::Empty)
     } else {
         Ok(answer)

@@ -16,11 +16,13 @@ pub use seen::SeenDomain;
 use stores::Assignments;
 use stories::Refusal;
 
+// Lower and upper bounds, and the questions about now and about a position, have a function each by the Rust's names.
+
 pub fn get_lower_bound(store: Assignments, domain: DomainId) -> Result<i32, Refusal>
     requires { Made store }
     ensures { result ≡ ask_now lowest store domain.0 }
 {
-    let variable = find(store.variables, store.domains, domain)?;
+    let variable = find(&store.variables, store.domains, domain)?;
     Ok(variable.bounds.lower)
 }
 
@@ -33,7 +35,7 @@ pub fn get_lower_bound_at_trail_position(
     requires { Made store }
     ensures { result ≡ ask_at lowest store domain.0 position.0 }
 {
-    let variable = find(store.variables, store.domains, domain)?;
+    let variable = find(&store.variables, store.domains, domain)?;
     Ok(lower_at(store.lower, variable, position))
 }
 
@@ -41,7 +43,7 @@ pub fn get_initial_lower_bound(store: Assignments, domain: DomainId) -> Result<i
     requires { Made store }
     ensures { result ≡ initial_lower store domain.0 }
 {
-    let variable = find(store.variables, store.domains, domain)?;
+    let variable = find(&store.variables, store.domains, domain)?;
     Ok(variable.initial.lower)
 }
 
@@ -49,7 +51,7 @@ pub fn get_upper_bound(store: Assignments, domain: DomainId) -> Result<i32, Refu
     requires { Made store }
     ensures { result ≡ ask_now highest store domain.0 }
 {
-    let variable = find(store.variables, store.domains, domain)?;
+    let variable = find(&store.variables, store.domains, domain)?;
     Ok(variable.bounds.upper)
 }
 
@@ -61,7 +63,7 @@ pub fn get_upper_bound_at_trail_position(
     requires { Made store }
     ensures { result ≡ ask_at highest store domain.0 position.0 }
 {
-    let variable = find(store.variables, store.domains, domain)?;
+    let variable = find(&store.variables, store.domains, domain)?;
     Ok(upper_at(store.upper, variable, position))
 }
 
@@ -69,7 +71,7 @@ pub fn get_initial_upper_bound(store: Assignments, domain: DomainId) -> Result<i
     requires { Made store }
     ensures { result ≡ initial_upper store domain.0 }
 {
-    let variable = find(store.variables, store.domains, domain)?;
+    let variable = find(&store.variables, store.domains, domain)?;
     Ok(variable.initial.upper)
 }
 
@@ -77,7 +79,7 @@ pub fn is_value_in_domain(store: Assignments, domain: DomainId, value: i32) -> R
     requires { Made store }
     ensures { result ≡ ask_now (contains value) store domain.0 }
 {
-    let variable = find(store.variables, store.domains, domain)?;
+    let variable = find(&store.variables, store.domains, domain)?;
     Ok(SeenDomain::now(&store.holes, variable).contains(value))
 }
 
@@ -90,7 +92,7 @@ pub fn is_value_in_domain_at_trail_position(
     requires { Made store }
     ensures { result ≡ ask_at (contains value) store domain.0 position.0 }
 {
-    let variable = find(store.variables, store.domains, domain)?;
+    let variable = find(&store.variables, store.domains, domain)?;
     let seen = SeenDomain::at(store.lower, store.upper, &store.holes, variable, position);
     Ok(seen.contains(value))
 }
@@ -99,7 +101,7 @@ pub fn is_domain_assigned(store: Assignments, domain: DomainId) -> Result<bool, 
     requires { Made store }
     ensures { result ≡ ask_now is_one store domain.0 }
 {
-    let variable = find(store.variables, store.domains, domain)?;
+    let variable = find(&store.variables, store.domains, domain)?;
     Ok(SeenDomain::now(&store.holes, variable).is_assigned())
 }
 
@@ -111,7 +113,7 @@ pub fn is_domain_assigned_at_trail_position(
     requires { Made store }
     ensures { result ≡ ask_at is_one store domain.0 position.0 }
 {
-    let variable = find(store.variables, store.domains, domain)?;
+    let variable = find(&store.variables, store.domains, domain)?;
     let seen = SeenDomain::at(store.lower, store.upper, &store.holes, variable, position);
     Ok(seen.is_assigned())
 }
@@ -120,7 +122,7 @@ pub fn get_assigned_value(store: Assignments, domain: DomainId) -> Result<Option
     requires { Made store }
     ensures { result ≡ ask_now assigned_value store domain.0 }
 {
-    let variable = find(store.variables, store.domains, domain)?;
+    let variable = find(&store.variables, store.domains, domain)?;
     Ok(SeenDomain::now(&store.holes, variable).assigned_value())
 }
 
@@ -133,7 +135,7 @@ pub fn get_assigned_value_at_trail_position(
     requires { Made store }
     ensures { result ≡ ask_at assigned_value store domain.0 position.0 }
 {
-    let variable = find(store.variables, store.domains, domain)?;
+    let variable = find(&store.variables, store.domains, domain)?;
     let seen = SeenDomain::at(store.lower, store.upper, &store.holes, variable, position);
     Ok(seen.assigned_value())
 }
@@ -143,7 +145,7 @@ pub fn evaluate_predicate(store: Assignments, predicate: Predicate) -> Result<Op
     requires { Made store }
     ensures { result ≡ ask_now (truth predicate.kind predicate.value) store predicate.domain.0 }
 {
-    let variable = find(store.variables, store.domains, predicate.domain)?;
+    let variable = find(&store.variables, store.domains, predicate.domain)?;
     Ok(SeenDomain::now(&store.holes, variable).truth(predicate.kind, predicate.value))
 }
 
@@ -155,7 +157,7 @@ pub fn evaluate_predicate_at_trail_position(
     requires { Made store }
     ensures { result ≡ ask_at (truth predicate.kind predicate.value) store predicate.domain.0 position.0 }
 {
-    let variable = find(store.variables, store.domains, predicate.domain)?;
+    let variable = find(&store.variables, store.domains, predicate.domain)?;
     let seen = SeenDomain::at(store.lower, store.upper, &store.holes, variable, position);
     Ok(seen.truth(predicate.kind, predicate.value))
 }
@@ -179,6 +181,6 @@ pub fn left(store: Assignments, domain: DomainId) -> Result<u64, Refusal>
     requires { Made store }
     ensures { result ≡ ask_now left_of store domain.0 }
 {
-    let variable = find(store.variables, store.domains, domain)?;
+    let variable = find(&store.variables, store.domains, domain)?;
     Ok(SeenDomain::now(&store.holes, variable).left())
 }

@@ -10,12 +10,12 @@ use stories::Refusal;
 
 // The record of a variable. Here refusal 1 is decided, before the number is used for anything else.
 pub fn find(
-    variables: [Variable; 256],
+    variables: &[Variable; 256],
     domains: usize,
     domain: DomainId,
 ) -> Result<Variable, Refusal>
     requires { domains ≤ 256 }
-    ensures { result ≡ found_in variables domains domain.0 }
+    ensures { result ≡ found_in variables.now domains domain.0 }
 {
     let id = domain.0 as usize;
     if domains <= id {

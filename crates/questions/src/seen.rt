@@ -151,10 +151,10 @@ impl<'a> SeenDomain<'a> {
     pub fn left(&self) -> u64
         ensures { result ≡ left_of self.now }
     {
-        let Bounds { lower, upper } = self.bounds;
-        if upper < lower {
+        if self.bounds.is_empty() {
             return 0;
         }
+        let Bounds { lower, upper } = self.bounds;
         u64::from(integers::abs_diff(lower, upper)) + 1
     }
 }

@@ -42,6 +42,8 @@ impl From<Refusal> for LineRefusal {
     }
 }
 
+// A function each, and no `From`: a `bool`, a `usize` or a number does not tell what is printed of it.
+
 // The new variable's number.
 pub fn of_grow(answer: Result<DomainId, Refusal>) -> Result<Reply, LineRefusal>
     ensures { result ≡ grow_reply answer }

@@ -1,4 +1,4 @@
-// A reply's text. Each function states how long its text can be, so that a caller knows how much room is enough.
+// A reply's text. The pairs of a `back` are in two slices, as `synchronise` writes them. Each function states how long its text can be, so that a caller knows how much room is enough.
 ghost use Rattle.std.specs.Prelude.{◌+◌, ◌*◌, ◌≤◌, length};
 ghost use Rattle.lines.specs.Spelling.{spelled, spelled_integer};
 ghost use Rattle.lines.specs.Writing.{Wrote};

@@ -1,5 +1,5 @@
 -- `left` counts from lower to upper: none where upper lies below, else one more than the distance.
-use mathlib.Core.Path.{ap}
+use mathlib.Core.Path.{sym, ap, ◌∙◌}
 use Rattle.domains.specs.Domain.{Domain}
 use borrow.Author.Rules.{rules}
 use Rattle.integers.proofs.Order.{integers}
@@ -14,7 +14,7 @@ returns c =
     let bounds = c.self.inside.bounds in
     let lower = read bounds.lower (search rules) in
     let upper = read bounds.upper (search rules) in
-    let test = simp (lower, upper) at c.if-upper-lower.false in
+    let test = sym c.is_empty.ensures ∙ c.if-is_empty.false in
     let far = simp (lower, upper) at c.abs_diff.ensures in
     let wide = c.from.ensures in
     let low = ap (λ (d : Domain). d.lower) c.self.view_is in
