@@ -1,5 +1,5 @@
 -- The values of a list are read and copied one after the other: what is left at a place is the value there and what is left at the next.
-use Prim.Native.Nat.{ℕ, suc, ◌+◌, ◌<◌, ◌≤◌}
+use Prim.Native.Nat.{ℕ, ◌+◌, ◌<◌, ◌≤◌}
 use mathlib.Core.Path.{◌≡◌, refl, sym, ap}
 use mathlib.Core.Bool.{Bool, true, false, ◌&&◌, cond}
 use mathlib.Core.List.{List, [], ◌∷◌}
@@ -8,10 +8,11 @@ use native.Mathlib.Omega.{arith}
 use lib.IntN.{ℤ}
 use lib.Signed.{mag}
 use lib.ListN.{length, get_or, take, drop, set, length-set}
-use lib.Seq.{drop-cons, sets, set_out, sets-eq, take-append_seam}
+use lib.Seq.{drop-cons, sets-eq, take-append_seam}
 use mir.Syntax.{w32}
 use mir.Val.{to_z, of_z}
 use mir.Facts.{to_z-of_z}
+use Rattle.lines.proofs.WritingLaws.{stores_past}
 use Rattle.std.specs.Prelude.{Some, None, is_some}
 use Rattle.std.specs.Bool.{then_some}
 use Rattle.std.specs.List.{list_all}
@@ -30,11 +31,6 @@ texts_at texts i within = rw (add-one, drop-cons texts i [])
 -- no value is copied where none is left
 pub copied_none : (at : ℕ) (buffer : List ℤ) → Copied [] at buffer buffer at
 copied_none at buffer = record { written = refl; past = omega arith }
-
--- stores past the end change nothing
-stores_past : (values buffer : List ℤ) (at : ℕ) → length buffer ≤ at → sets buffer at values ≡ buffer
-stores_past [] buffer at full = refl
-stores_past (value ∷ values) buffer at full = rw (set_out buffer at value full) (stores_past values buffer (suc at) (omega arith))
 
 -- and none past the buffer's end
 pub copied_full : (values : List ℤ) (at : ℕ) (buffer : List ℤ) → length buffer ≤ at → Copied values at buffer buffer at

@@ -19,7 +19,7 @@ stores_go_on (x ∷ a) l i b =
     ap (λ (k : ℕ). sets (sets l i (x ∷ a)) k b) next ∙ stores_go_on a _ (suc i) b
 
 -- stores past the end change nothing
-stores_past : (vs l : List ℕ) (i : ℕ) → length l ≤ i → sets l i vs ≡ l
+pub stores_past : {A : Type 0} (vs l : List A) (i : ℕ) → length l ≤ i → sets l i vs ≡ l
 stores_past [] l i h = refl
 stores_past (x ∷ vs) l i h = rw (set_out l i x h) (stores_past vs l (suc i) (omega arith))
 
