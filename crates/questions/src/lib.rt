@@ -9,12 +9,23 @@ ghost use Rattle.std.specs.Prelude.{◌≡◌};
 ghost use Rattle.stores.specs.Made.{Made};
 ghost use Rattle.stories.specs.Questions.{lowest, highest, contains, is_one, assigned_value, truth, satisfied, falsified, left_of};
 ghost use Rattle.questions.specs.Answers.{ask_now, ask_at, initial_lower, initial_upper};
+ghost use Rattle.questions.specs.Parts.{found_in};
 
 pub use parts::{bounds_at, find, lower_at, upper_at};
 use predicates::{DomainId, Predicate, TrailPosition};
 pub use seen::SeenDomain;
-use stores::Assignments;
+use stores::{Assignments, Variable};
 use stories::Refusal;
+
+// The record of a variable, for all that follow. The array is taken out before it is lent: where a place in the store itself were lent
+// to be indexed, each question would copy the whole store.
+fn variable_of(store: Assignments, domain: DomainId) -> Result<Variable, Refusal>
+    requires { Made store }
+    ensures { result ≡ found_in store.variables store.domains domain.0 }
+{
+    let variables = store.variables;
+    find(&variables, store.domains, domain)
+}
 
 // Lower and upper bounds, and the questions about now and about a position, have a function each by the Rust's names.
 
@@ -22,7 +33,7 @@ pub fn get_lower_bound(store: Assignments, domain: DomainId) -> Result<i32, Refu
     requires { Made store }
     ensures { result ≡ ask_now lowest store domain.0 }
 {
-    let variable = find(&store.variables, store.domains, domain)?;
+    let variable = variable_of(store, domain)?;
     Ok(variable.bounds.lower)
 }
 
@@ -35,7 +46,7 @@ pub fn get_lower_bound_at_trail_position(
     requires { Made store }
     ensures { result ≡ ask_at lowest store domain.0 position.0 }
 {
-    let variable = find(&store.variables, store.domains, domain)?;
+    let variable = variable_of(store, domain)?;
     Ok(lower_at(store.lower, variable, position))
 }
 
@@ -43,7 +54,7 @@ pub fn get_initial_lower_bound(store: Assignments, domain: DomainId) -> Result<i
     requires { Made store }
     ensures { result ≡ initial_lower store domain.0 }
 {
-    let variable = find(&store.variables, store.domains, domain)?;
+    let variable = variable_of(store, domain)?;
     Ok(variable.initial.lower)
 }
 
@@ -51,7 +62,7 @@ pub fn get_upper_bound(store: Assignments, domain: DomainId) -> Result<i32, Refu
     requires { Made store }
     ensures { result ≡ ask_now highest store domain.0 }
 {
-    let variable = find(&store.variables, store.domains, domain)?;
+    let variable = variable_of(store, domain)?;
     Ok(variable.bounds.upper)
 }
 
@@ -63,7 +74,7 @@ pub fn get_upper_bound_at_trail_position(
     requires { Made store }
     ensures { result ≡ ask_at highest store domain.0 position.0 }
 {
-    let variable = find(&store.variables, store.domains, domain)?;
+    let variable = variable_of(store, domain)?;
     Ok(upper_at(store.upper, variable, position))
 }
 
@@ -71,7 +82,7 @@ pub fn get_initial_upper_bound(store: Assignments, domain: DomainId) -> Result<i
     requires { Made store }
     ensures { result ≡ initial_upper store domain.0 }
 {
-    let variable = find(&store.variables, store.domains, domain)?;
+    let variable = variable_of(store, domain)?;
     Ok(variable.initial.upper)
 }
 
@@ -79,7 +90,7 @@ pub fn is_value_in_domain(store: Assignments, domain: DomainId, value: i32) -> R
     requires { Made store }
     ensures { result ≡ ask_now (contains value) store domain.0 }
 {
-    let variable = find(&store.variables, store.domains, domain)?;
+    let variable = variable_of(store, domain)?;
     Ok(SeenDomain::now(&store.holes, variable).contains(value))
 }
 
@@ -92,7 +103,7 @@ pub fn is_value_in_domain_at_trail_position(
     requires { Made store }
     ensures { result ≡ ask_at (contains value) store domain.0 position.0 }
 {
-    let variable = find(&store.variables, store.domains, domain)?;
+    let variable = variable_of(store, domain)?;
     let seen = SeenDomain::at(store.lower, store.upper, &store.holes, variable, position);
     Ok(seen.contains(value))
 }
@@ -101,7 +112,7 @@ pub fn is_domain_assigned(store: Assignments, domain: DomainId) -> Result<bool, 
     requires { Made store }
     ensures { result ≡ ask_now is_one store domain.0 }
 {
-    let variable = find(&store.variables, store.domains, domain)?;
+    let variable = variable_of(store, domain)?;
     Ok(SeenDomain::now(&store.holes, variable).is_assigned())
 }
 
@@ -113,7 +124,7 @@ pub fn is_domain_assigned_at_trail_position(
     requires { Made store }
     ensures { result ≡ ask_at is_one store domain.0 position.0 }
 {
-    let variable = find(&store.variables, store.domains, domain)?;
+    let variable = variable_of(store, domain)?;
     let seen = SeenDomain::at(store.lower, store.upper, &store.holes, variable, position);
     Ok(seen.is_assigned())
 }
@@ -122,7 +133,7 @@ pub fn get_assigned_value(store: Assignments, domain: DomainId) -> Result<Option
     requires { Made store }
     ensures { result ≡ ask_now assigned_value store domain.0 }
 {
-    let variable = find(&store.variables, store.domains, domain)?;
+    let variable = variable_of(store, domain)?;
     Ok(SeenDomain::now(&store.holes, variable).assigned_value())
 }
 
@@ -135,7 +146,7 @@ pub fn get_assigned_value_at_trail_position(
     requires { Made store }
     ensures { result ≡ ask_at assigned_value store domain.0 position.0 }
 {
-    let variable = find(&store.variables, store.domains, domain)?;
+    let variable = variable_of(store, domain)?;
     let seen = SeenDomain::at(store.lower, store.upper, &store.holes, variable, position);
     Ok(seen.assigned_value())
 }
@@ -145,7 +156,7 @@ pub fn evaluate_predicate(store: Assignments, predicate: Predicate) -> Result<Op
     requires { Made store }
     ensures { result ≡ ask_now (truth predicate.kind predicate.value) store predicate.domain.0 }
 {
-    let variable = find(&store.variables, store.domains, predicate.domain)?;
+    let variable = variable_of(store, predicate.domain)?;
     Ok(SeenDomain::now(&store.holes, variable).truth(predicate.kind, predicate.value))
 }
 
@@ -157,7 +168,7 @@ pub fn evaluate_predicate_at_trail_position(
     requires { Made store }
     ensures { result ≡ ask_at (truth predicate.kind predicate.value) store predicate.domain.0 position.0 }
 {
-    let variable = find(&store.variables, store.domains, predicate.domain)?;
+    let variable = variable_of(store, predicate.domain)?;
     let seen = SeenDomain::at(store.lower, store.upper, &store.holes, variable, position);
     Ok(seen.truth(predicate.kind, predicate.value))
 }
@@ -181,6 +192,6 @@ pub fn left(store: Assignments, domain: DomainId) -> Result<u64, Refusal>
     requires { Made store }
     ensures { result ≡ ask_now left_of store domain.0 }
 {
-    let variable = find(&store.variables, store.domains, domain)?;
+    let variable = variable_of(store, domain)?;
     Ok(SeenDomain::now(&store.holes, variable).left())
 }

@@ -1,5 +1,6 @@
 // A variable's domain as the store keeps it, now or at a position of the trail, and what it tells. The hole pool is lent, so that a
-// host that holds a store asks without copying it. Takes any content.
+// host that holds a store asks without copying it. What walks the pool is always inlined, so that a question about a store handed on by
+// value copies no more of it than the pool. Takes any content.
 ghost use Rattle.std.specs.Prelude.{◌≡◌};
 ghost use Rattle.domains.specs.Domain.{Domain, has, member};
 ghost use Rattle.questions.specs.Parts.{bounds_at, within, holes_in, holes_at, holes_until};
@@ -66,6 +67,7 @@ impl<'a> SeenDomain<'a> {
     }
 
     // Whether `value` is within the bounds and no hole.
+    #[inline(always)]
     pub fn contains(&self, value: i32) -> bool
         ensures { result ≡ member self.now value }
     {
@@ -136,6 +138,7 @@ impl<'a> SeenDomain<'a> {
     }
 
     // Whether a predicate of this kind and value is true or false, or neither.
+    #[inline(always)]
     pub fn truth(&self, kind: PredicateType, value: i32) -> Option<bool>
         ensures { result ≡ truth kind value self.now }
     {
