@@ -6,34 +6,33 @@ use crate::commands::{Command, Look};
 use crate::list_values::Values;
 use crate::questions_answered::answer_question;
 use predicates::{Checkpoint, DomainId, Predicate, Reason};
-use std::io;
-use std::io::Write;
 use stores::Assignments;
 use stories::Refusal;
 
-// Makes the call of a command, and prints its answer. It is taken into the loop that keeps the store, so that the compiler sees that
-// a question's store is not written meanwhile, and copies none: else each question would copy all of it.
+// Makes the call of a command, and prints its answer. It is taken into the loop that keeps the store, so that a call by value copies
+// the store no more often than where the loop made it.
 #[inline(always)]
-pub fn answer_command<W: Write>(
-    answer: Answer<'_, W>,
+pub fn answer_command(
+    answer: Answer<'_, '_>,
     store: &mut Assignments,
     command: Command,
-) -> io::Result<()>
+    values: &Values,
+)
     requires { Made store.old }
     ensures { Made store.new }
 {
     match command {
         Command::Fresh => {
             *store = Assignments::default();
-            answer.put_done()
+            answer.put_done();
         }
         Command::State => answer.put_state(store),
         Command::Look(look) => answer_look(answer, store, look),
         Command::Question(question) => answer_question(answer, store, question),
         Command::Grow { lower, upper } => answer.put(grow(store, lower, upper).map(|id| id.0)),
-        Command::List(values) => answer.put(list(store, values).map(|id| id.0)),
+        Command::List => answer.put(list(store, values).map(|id| id.0)),
         Command::Post { predicate, reason } => {
-            answer.put(post(store, predicate, reason).map(u8::from))
+            answer.put(post(store, predicate, reason).map(u8::from));
         }
         Command::Open => answer.put(new_checkpoint(store).map(|checkpoint| checkpoint.0)),
         Command::Synchronise {
@@ -44,7 +43,7 @@ pub fn answer_command<W: Write>(
     }
 }
 
-fn answer_look<W: Write>(answer: Answer<'_, W>, store: &Assignments, look: Look) -> io::Result<()>
+fn answer_look(answer: Answer<'_, '_>, store: &Assignments, look: Look)
     requires { Made store.now }
 {
     match look {
@@ -53,7 +52,7 @@ fn answer_look<W: Write>(answer: Answer<'_, W>, store: &Assignments, look: Look)
         Look::TrailEntries => answer.put(Ok(store.num_trail_entries())),
         Look::PrunedValues => answer.put(Ok(store.get_pruned_value_count())),
         Look::TrailEntry(position) => {
-            answer.put(store.get_trail_entry(position).map(EntryFields))
+            answer.put(store.get_trail_entry(position).map(EntryFields));
         }
     }
 }
@@ -67,7 +66,7 @@ fn grow(store: &mut Assignments, lower: i32, upper: i32) -> Result<DomainId, Ref
     grew.answer
 }
 
-fn list(store: &mut Assignments, values: Values) -> Result<DomainId, Refusal>
+fn list(store: &mut Assignments, values: &Values) -> Result<DomainId, Refusal>
     requires { Made store.old }
     ensures { Made store.new }
 {
@@ -98,13 +97,13 @@ fn new_checkpoint(store: &mut Assignments) -> Result<Checkpoint, Refusal>
 }
 
 // Goes back, with lent slices of that many places, and prints what was written to them. The call is lent two slices.
-fn synchronise<W: Write>(
-    answer: Answer<'_, W>,
+fn synchronise(
+    answer: Answer<'_, '_>,
     store: &mut Assignments,
     checkpoint: Checkpoint,
     variables_lent: usize,
     lowers_lent: usize,
-) -> io::Result<()>
+)
     requires { Made store.old }
     ensures { Made store.new }
 {
@@ -119,5 +118,5 @@ fn synchronise<W: Write>(
         &mut lowers[..lowers_lent],
     );
     *store = gone.store;
-    answer.put_pairs(gone.answer, &variables, &lowers)
+    answer.put_pairs(gone.answer, &variables, &lowers);
 }

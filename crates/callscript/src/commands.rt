@@ -3,7 +3,6 @@ use crate::fields::{Fields, MOST_ROOM};
 use crate::list_values::Values;
 use crate::questions_asked::{Question, read_question};
 use predicates::{Checkpoint, Predicate, Reason, TrailPosition};
-use std::str;
 
 // A call.
 #[derive(Clone, Copy)]
@@ -16,7 +15,8 @@ pub enum Command {
         lower: i32,
         upper: i32,
     },
-    List(Values),
+    // Of the values that were read into the lent place.
+    List,
     Post {
         predicate: Predicate,
         reason: Reason,
@@ -39,37 +39,40 @@ pub enum Look {
     TrailEntry(TrailPosition),
 }
 
-// The command that the line spells: its name, and as many fields as the command has.
-pub fn read_command(line: &[u8]) -> Option<Command> {
-    // Whatever a line spells is ASCII.
-    let mut fields = Fields::new(str::from_utf8(line).ok()?);
+// The command that the line spells: its name, and as many fields as the command has. The values of a list go to `values`, since a
+// command that had them would be large.
+pub fn read_command(line: &[u8], values: &mut Values) -> Option<Command> {
+    let mut fields = Fields::new(line);
     let name = fields.word()?;
-    let command = read_call(name, &mut fields)?;
+    let command = read_call(name, &mut fields, values)?;
     fields.end()?;
     Some(command)
 }
 
 // A call that may change the store, or `state`.
-fn read_call(name: &str, fields: &mut Fields<'_>) -> Option<Command> {
+fn read_call(name: &[u8], fields: &mut Fields<'_>, values: &mut Values) -> Option<Command> {
     let command = match name {
-        "fresh" => Command::Fresh,
-        "state" => Command::State,
-        "var" => Command::Grow {
+        b"fresh" => Command::Fresh,
+        b"state" => Command::State,
+        b"var" => Command::Grow {
             lower: fields.integer()?,
             upper: fields.integer()?,
         },
-        "list" => Command::List(fields.values()?),
-        "post" => Command::Post {
+        b"list" => {
+            fields.values(values)?;
+            Command::List
+        }
+        b"post" => Command::Post {
             predicate: fields.predicate()?,
             reason: fields.reason()?,
         },
-        "open" => Command::Open,
-        "back" => Command::Synchronise {
+        b"open" => Command::Open,
+        b"back" => Command::Synchronise {
             checkpoint: fields.checkpoint()?,
             variables: MOST_ROOM,
             lowers: MOST_ROOM,
         },
-        "synchronise" => Command::Synchronise {
+        b"synchronise" => Command::Synchronise {
             checkpoint: fields.checkpoint()?,
             variables: fields.room()?,
             lowers: fields.room()?,
@@ -79,13 +82,13 @@ fn read_call(name: &str, fields: &mut Fields<'_>) -> Option<Command> {
     Some(command)
 }
 
-fn read_look(name: &str, fields: &mut Fields<'_>) -> Option<Command> {
+fn read_look(name: &[u8], fields: &mut Fields<'_>) -> Option<Command> {
     let look = match name {
-        "get_checkpoint" => Look::Checkpoint,
-        "num_domains" => Look::Domains,
-        "num_trail_entries" => Look::TrailEntries,
-        "count" => Look::PrunedValues,
-        "get_trail_entry" => Look::TrailEntry(fields.position()?),
+        b"get_checkpoint" => Look::Checkpoint,
+        b"num_domains" => Look::Domains,
+        b"num_trail_entries" => Look::TrailEntries,
+        b"count" => Look::PrunedValues,
+        b"get_trail_entry" => Look::TrailEntry(fields.position()?),
         _ => return Some(Command::Question(read_question(name, fields)?)),
     };
     Some(Command::Look(look))

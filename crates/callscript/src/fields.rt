@@ -1,44 +1,56 @@
 // The fields of a line, taken one after the other, each as what the command wants it to spell. Apart from `commands`, so that a
 // mistake in what the driver reads is not in both programs.
+ghost use Rattle.std.specs.Prelude.{◌≡◌, [], ◌∷◌, MatchOption};
+ghost use Rattle.lines.specs.Fields.{fields, fields_behind};
+
 use crate::list_values::Values;
+use lines::first_field;
 use predicates::{Checkpoint, DomainId, Predicate, PredicateType, Reason, TrailPosition};
-use std::str::Split;
 
 // The most places that a line can lend; `back` lends as many.
 pub const MOST_ROOM: usize = 1024;
 
-// The fields that are yet to be taken.
+// What stands behind the fields that were taken, if anything does.
 #[derive(Drop)]
 pub struct Fields<'a> {
-    rest: Split<'a, char>,
+    rest: Option<&'a [u8]>,
 }
 
 impl<'a> Fields<'a> {
-    pub fn new(line: &'a str) -> Self {
-        Fields {
-            rest: line.split('\t'),
-        }
+    pub fn new(line: &'a [u8]) -> Self
+        ensures { fields_behind result.rest ≡ fields line.now }
+    {
+        Fields { rest: Some(line) }
     }
 
-    pub fn word(&mut self) -> Option<&'a str> {
-        self.rest.next()
+    // The next field, if one is left.
+    pub fn word(&mut self) -> Option<&'a [u8]>
+        ensures { MatchOption result (fields_behind self.old.rest ≡ []) (λ field. fields_behind self.old.rest ≡ field.now ∷ fields_behind self.new.rest) }
+    {
+        let (field, rest) = first_field(self.rest?);
+        self.rest = rest;
+        Some(field)
     }
 
     pub fn natural(&mut self) -> Option<u32> {
-        lines::read_natural(self.word()?.as_bytes())
+        lines::read_natural(self.word()?)
     }
 
     pub fn integer(&mut self) -> Option<i32> {
-        lines::read_integer(self.word()?.as_bytes())
+        lines::read_integer(self.word()?)
     }
 
     // All fields that are left, each a value.
-    pub fn values(&mut self) -> Option<Values> {
-        let mut values = Values::new();
-        for field in &mut self.rest {
-            values.push(lines::read_integer(field.as_bytes())?)?;
+    pub fn values(&mut self, values: &mut Values) -> Option<()> {
+        values.clear();
+        // Where there are more, there is no room for the last.
+        for _ in 0..=Values::MOST {
+            let Some(field) = self.word() else {
+                return Some(());
+            };
+            values.push(lines::read_integer(field)?)?;
         }
-        Some(values)
+        None
     }
 
     pub fn variable(&mut self) -> Option<DomainId> {
@@ -70,18 +82,18 @@ impl<'a> Fields<'a> {
 
     fn operator(&mut self) -> Option<PredicateType> {
         match self.word()? {
-            "ge" => Some(PredicateType::LowerBound),
-            "le" => Some(PredicateType::UpperBound),
-            "ne" => Some(PredicateType::NotEqual),
-            "eq" => Some(PredicateType::Equal),
+            b"ge" => Some(PredicateType::LowerBound),
+            b"le" => Some(PredicateType::UpperBound),
+            b"ne" => Some(PredicateType::NotEqual),
+            b"eq" => Some(PredicateType::Equal),
             _ => None,
         }
     }
 
     pub fn reason(&mut self) -> Option<Reason> {
         match self.word()? {
-            "-" => Some(Reason::None),
-            number => lines::read_natural(number.as_bytes()).map(Reason::Given),
+            b"-" => Some(Reason::None),
+            number => lines::read_natural(number).map(Reason::Given),
         }
     }
 

@@ -20,6 +20,10 @@ impl Values {
         }
     }
 
+    pub fn clear(&mut self) {
+        self.count = 0;
+    }
+
     // Puts a value behind the others, if there is room.
     pub fn push(&mut self, value: i32) -> Option<()> {
         let place = self.values.get_mut(self.count)?;

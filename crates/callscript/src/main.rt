@@ -16,6 +16,7 @@ mod states;
 use answers::Answer;
 use calls::answer_command;
 use commands::read_command;
+use list_values::Values;
 use output::Output;
 use reading::{Input, Line};
 use std::io;
@@ -23,24 +24,31 @@ use std::io::{Read, Write};
 use stores::Assignments;
 
 // Answers line after line, until there is no more or the output takes no more.
-fn answer_lines<R: Read, W: Write>(input: &mut Input<R>, output: &mut W) -> io::Result<()> {
+fn answer_lines<R: Read, W: Write>(input: &mut Input<R>, output: &mut Output<W>) -> io::Result<()> {
     let mut store = Assignments::default();
     let mut line = Line::new();
+    let mut values = Values::new();
     // Nothing says that the input ends; no run reads as many lines.
     for number in 1..u64::MAX {
         if !input.read_line(&mut line) {
             break;
         }
+        output.write_enough()?;
+        let bytes = line.bytes().ok();
+        let command = bytes.and_then(|bytes| read_command(bytes, &mut values));
+        let mut writer = output.text();
         let answer = Answer {
-            output,
+            writer: &mut writer,
             line: number,
         };
-        match line.bytes().ok().and_then(read_command) {
-            Some(command) => answer_command(answer, &mut store, command)?,
-            None => answer.put_bad()?,
+        match command {
+            Some(command) => answer_command(answer, &mut store, command, &values),
+            None => answer.put_bad(),
         }
+        let length = writer.length();
+        output.keep(length);
     }
-    output.flush()
+    output.write_kept()
 }
 
 fn main(rt: HostRuntime) {

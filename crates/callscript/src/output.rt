@@ -1,18 +1,20 @@
-// The output, written in large pieces.
-ghost use Rattle.std.specs.Prelude.{◌≤◌};
-
+// The output: answers are printed into a buffer, and the buffer is written between two lines, once it holds enough.
+use lines::Writer;
 use std::io;
 use std::io::Write;
 
-const SIZE: usize = 32768;
+// With more bytes than this the buffer is written before the next line is answered.
+const ENOUGH: usize = 32768;
 
-// A writer and what is yet to be written to it. A BufWriter would be on the heap.
+// There is room behind these for the longest answer, a state of 200,000 bytes.
+const SIZE: usize = 262144;
+
+// A writer and the answers that are yet to be written to it, each of them whole. A BufWriter would be on the heap.
 #[derive(Drop)]
 pub struct Output<W> {
     writer: W,
     bytes: [u8; SIZE],
     length: usize,
-    ghost kept: { length ≤ 32768 },
 }
 
 impl<W: Write> Output<W> {
@@ -23,24 +25,31 @@ impl<W: Write> Output<W> {
             length: 0,
         }
     }
-}
 
-impl<W: Write> Write for Output<W> {
-    // Keeps as many of the bytes as there is room for.
-    fn write(&mut self, more: &[u8]) -> io::Result<usize> {
-        if self.length == SIZE {
-            self.flush()?;
-        }
-        let count = more.len().min(SIZE - self.length);
-        let end = self.length + count;
-        self.bytes[self.length..end].copy_from_slice(&more[..count]);
-        self.length = end;
-        Ok(count)
+    // Where an answer is printed, behind those that are kept.
+    pub fn text(&mut self) -> Writer<'_> {
+        let length = self.length;
+        Writer::new(&mut self.bytes, length)
     }
 
-    fn flush(&mut self) -> io::Result<()> {
-        self.writer.write_all(&self.bytes[..self.length])?;
+    // Keeps the answer that was printed up to this place.
+    pub fn keep(&mut self, length: usize) {
+        self.length = length;
+    }
+
+    // Writes the answers that are kept, if they are enough.
+    pub fn write_enough(&mut self) -> io::Result<()> {
+        if self.length <= ENOUGH {
+            return Ok(());
+        }
+        self.write_kept()
+    }
+
+    // Writes the answers that are kept.
+    pub fn write_kept(&mut self) -> io::Result<()> {
+        let length = self.length.min(SIZE);
+        self.writer.write_all(&self.bytes[..length])?;
         self.length = 0;
-        self.writer.flush()
+        Ok(())
     }
 }

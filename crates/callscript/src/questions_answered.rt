@@ -1,8 +1,9 @@
 // The questions about one variable, answered: the call that each asks for, and the line that is printed.
 ghost use Rattle.stores.specs.Made.{Made};
 
-use crate::answers::Answer;
+use crate::answers::{Answer, Printed, put_field};
 use crate::questions_asked::Question;
+use lines::Writer;
 use predicates::DomainId;
 use questions::{
     evaluate_predicate, evaluate_predicate_at_trail_position, get_assigned_value,
@@ -12,18 +13,11 @@ use questions::{
     is_predicate_falsified, is_predicate_satisfied, is_value_in_domain,
     is_value_in_domain_at_trail_position, left,
 };
-use std::fmt::Display;
-use std::io::Write;
-use std::{fmt, io};
 use stores::Assignments;
 use stories::Refusal;
 
 // Prints the store's answer.
-pub fn answer_question<W: Write>(
-    answer: Answer<'_, W>,
-    store: &Assignments,
-    question: Question,
-) -> io::Result<()>
+pub fn answer_question(answer: Answer<'_, '_>, store: &Assignments, question: Question)
     requires { Made store.now }
 {
     match question {
@@ -32,7 +26,7 @@ pub fn answer_question<W: Write>(
         Question::InitialLower(domain) => answer.put(get_initial_lower_bound(*store, domain)),
         Question::InitialUpper(domain) => answer.put(get_initial_upper_bound(*store, domain)),
         Question::Assigned(domain) => answer.put(is_domain_assigned(*store, domain)),
-        Question::Value(domain) => answer.put_or(get_assigned_value(*store, domain), "none"),
+        Question::Value(domain) => answer.put_or(get_assigned_value(*store, domain), b"none"),
         Question::Show(domain) => answer.put(show(store, domain)),
         Question::LowerAt(position, domain) => {
             answer.put(get_lower_bound_at_trail_position(*store, domain, position))
@@ -45,18 +39,18 @@ pub fn answer_question<W: Write>(
         }
         Question::ValueAt(position, domain) => {
             let value = get_assigned_value_at_trail_position(*store, domain, position);
-            answer.put_or(value, "none")
+            answer.put_or(value, b"none")
         }
         Question::Contains(domain, value) => answer.put(is_value_in_domain(*store, domain, value)),
         Question::ContainsAt(position, domain, value) => {
             answer.put(is_value_in_domain_at_trail_position(*store, domain, value, position))
         }
-        Question::Truth(predicate) => answer.put_or(evaluate_predicate(*store, predicate), "open"),
+        Question::Truth(predicate) => answer.put_or(evaluate_predicate(*store, predicate), b"open"),
         Question::Satisfied(predicate) => answer.put(is_predicate_satisfied(*store, predicate)),
         Question::Falsified(predicate) => answer.put(is_predicate_falsified(*store, predicate)),
         Question::TruthAt(position, predicate) => {
             let truth = evaluate_predicate_at_trail_position(*store, predicate, position);
-            answer.put_or(truth, "open")
+            answer.put_or(truth, b"open")
         }
     }
 }
@@ -79,8 +73,10 @@ fn show(store: &Assignments, domain: DomainId) -> Result<Shown, Refusal>
     })
 }
 
-impl Display for Shown {
-    fn fmt<W: fmt::Write>(&self, f: &mut fmt::Formatter<W>) -> fmt::Result {
-        write!(f, "{}\t{}\t{}", self.lower, self.upper, self.left)
+impl Printed for Shown {
+    fn print(self, writer: &mut Writer<'_>) {
+        self.lower.print(writer);
+        put_field(writer, self.upper);
+        put_field(writer, self.left);
     }
 }

@@ -25,38 +25,38 @@ pub enum Question {
 }
 
 // The question of that name, about what its fields spell.
-pub fn read_question(name: &str, fields: &mut Fields<'_>) -> Option<Question> {
+pub fn read_question(name: &[u8], fields: &mut Fields<'_>) -> Option<Question> {
     let question = match name {
-        "get_lower_bound" => Question::Lower(fields.variable()?),
-        "get_upper_bound" => Question::Upper(fields.variable()?),
-        "get_initial_lower_bound" => Question::InitialLower(fields.variable()?),
-        "get_initial_upper_bound" => Question::InitialUpper(fields.variable()?),
-        "is_domain_assigned" => Question::Assigned(fields.variable()?),
-        "get_assigned_value" => Question::Value(fields.variable()?),
-        "show" => Question::Show(fields.variable()?),
-        "is_value_in_domain" => Question::Contains(fields.variable()?, fields.integer()?),
-        "ask" => Question::Truth(fields.predicate()?),
-        "is_predicate_satisfied" => Question::Satisfied(fields.predicate()?),
-        "is_predicate_falsified" => Question::Falsified(fields.predicate()?),
+        b"get_lower_bound" => Question::Lower(fields.variable()?),
+        b"get_upper_bound" => Question::Upper(fields.variable()?),
+        b"get_initial_lower_bound" => Question::InitialLower(fields.variable()?),
+        b"get_initial_upper_bound" => Question::InitialUpper(fields.variable()?),
+        b"is_domain_assigned" => Question::Assigned(fields.variable()?),
+        b"get_assigned_value" => Question::Value(fields.variable()?),
+        b"show" => Question::Show(fields.variable()?),
+        b"is_value_in_domain" => Question::Contains(fields.variable()?, fields.integer()?),
+        b"ask" => Question::Truth(fields.predicate()?),
+        b"is_predicate_satisfied" => Question::Satisfied(fields.predicate()?),
+        b"is_predicate_falsified" => Question::Falsified(fields.predicate()?),
         _ => read_question_at(name, fields)?,
     };
     Some(question)
 }
 
 // A question at a position, which is its first field.
-fn read_question_at(name: &str, fields: &mut Fields<'_>) -> Option<Question> {
+fn read_question_at(name: &[u8], fields: &mut Fields<'_>) -> Option<Question> {
     let position = fields.position()?;
     let question = match name {
-        "get_lower_bound_at_trail_position" => Question::LowerAt(position, fields.variable()?),
-        "get_upper_bound_at_trail_position" => Question::UpperAt(position, fields.variable()?),
-        "is_domain_assigned_at_trail_position" => {
+        b"get_lower_bound_at_trail_position" => Question::LowerAt(position, fields.variable()?),
+        b"get_upper_bound_at_trail_position" => Question::UpperAt(position, fields.variable()?),
+        b"is_domain_assigned_at_trail_position" => {
             Question::AssignedAt(position, fields.variable()?)
         }
-        "get_assigned_value_at_trail_position" => Question::ValueAt(position, fields.variable()?),
-        "is_value_in_domain_at_trail_position" => {
+        b"get_assigned_value_at_trail_position" => Question::ValueAt(position, fields.variable()?),
+        b"is_value_in_domain_at_trail_position" => {
             Question::ContainsAt(position, fields.variable()?, fields.integer()?)
         }
-        "at" => Question::TruthAt(position, fields.predicate()?),
+        b"at" => Question::TruthAt(position, fields.predicate()?),
         _ => return None,
     };
     Some(question)

@@ -1,49 +1,101 @@
 // The whole state in lines, as the store keeps it (docs/CALLS.md, "The state").
 ghost use Rattle.std.specs.Prelude.{◌≤◌};
 
-use crate::answers::EntryFields;
+use crate::answers::{EntryFields, Printed, put_field};
+use lines::Writer;
 use pools::{Pool, Update};
 use predicates::TrailPosition;
-use std::fmt::Display;
-use std::io::Write;
 use std::iter::Rev;
-use std::{fmt, io, slice};
+use std::slice;
 use stores::{Assignments, Variable};
 
+// How many places a trail and a pool have.
+const PLACES: usize = 1024;
+
 // All lines of the state.
-pub fn put_state<W: Write>(output: &mut W, store: &Assignments) -> io::Result<()> {
-    put_checkpoints(output, store)?;
-    let count = store.pruned;
-    writeln!(output, "count\t{count}")?;
-    put_entries(output, store)?;
+pub fn put_state(writer: &mut Writer<'_>, store: &Assignments) {
+    put_checkpoints(writer, store);
+    writer.put_bytes(b"count");
+    put_field(writer, store.pruned);
+    writer.put_byte(b'\n');
+    put_entries(writer, store);
+    let positions = Positions::of(store);
     for (number, variable) in store.variables.iter().take(store.domains).enumerate() {
         let listed = Listed {
             number,
             variable,
             store,
+            positions: &positions,
         };
-        listed.put(output)?;
+        listed.put(writer);
     }
-    Ok(())
 }
 
 // The current checkpoint, and the trail's length at the opening of each.
-fn put_checkpoints<W: Write>(output: &mut W, store: &Assignments) -> io::Result<()> {
+fn put_checkpoints(writer: &mut Writer<'_>, store: &Assignments) {
     let checkpoint = store.checkpoint;
-    write!(output, "checkpoint\t{checkpoint}")?;
+    writer.put_bytes(b"checkpoint");
+    put_field(writer, checkpoint);
     for delimiter in store.delimiters.iter().take(checkpoint) {
-        write!(output, "\t{delimiter}")?;
+        put_field(writer, *delimiter);
     }
-    writeln!(output)
+    writer.put_byte(b'\n');
 }
 
-fn put_entries<W: Write>(output: &mut W, store: &Assignments) -> io::Result<()> {
+fn put_entries(writer: &mut Writer<'_>, store: &Assignments) {
     let trail = &store.trail;
     for (position, entry) in trail.entries.iter().take(trail.length).enumerate() {
-        let fields = EntryFields(*entry);
-        writeln!(output, "entry\t{position}\t{fields}")?;
+        writer.put_bytes(b"entry");
+        put_field(writer, position);
+        put_field(writer, EntryFields(*entry));
+        writer.put_byte(b'\n');
     }
-    Ok(())
+}
+
+// What is asked of the position of each update: the checkpoint at which its entry was made, and which bounds the entry moved. It is
+// told of all positions at once, as asking the store for each update takes as long as the store is large.
+#[derive(Drop)]
+struct Positions {
+    checkpoints: [u16; PLACES],
+    lower: [bool; PLACES],
+    upper: [bool; PLACES],
+}
+
+impl Positions {
+    fn of(store: &Assignments) -> Self {
+        Positions {
+            checkpoints: checkpoints(store),
+            lower: moved(&store.lower),
+            upper: moved(&store.upper),
+        }
+    }
+}
+
+// The checkpoint at which the entry of each position was made: as many as had been opened before it.
+fn checkpoints(store: &Assignments) -> [u16; PLACES] {
+    let mut opened = [0; PLACES];
+    for delimiter in store.delimiters.iter().take(store.checkpoint) {
+        if let Some(place) = opened.get_mut(usize::from(*delimiter)) {
+            *place = u16::saturating_add(*place, 1);
+        }
+    }
+    let mut before = 0;
+    for place in &mut opened {
+        before = u16::saturating_add(before, *place);
+        *place = before;
+    }
+    opened
+}
+
+// The positions of a pool's updates. An entry belongs to one variable, so a position tells the variable too.
+fn moved(pool: &Pool) -> [bool; PLACES] {
+    let mut marks = [false; PLACES];
+    for update in pool.updates.iter().take(pool.length) {
+        if let Some(mark) = marks.get_mut(usize::from(update.position.0)) {
+            *mark = true;
+        }
+    }
+    marks
 }
 
 // A variable of the store, with its number.
@@ -52,108 +104,79 @@ struct Listed<'a> {
     number: usize,
     variable: &'a Variable,
     store: &'a Assignments,
+    positions: &'a Positions,
 }
 
 impl Listed<'_> {
     // The variable's line, which has its bounds now and its initial mark, and the lines of its histories.
-    fn put<W: Write>(self, output: &mut W) -> io::Result<()> {
-        let Listed {
-            number,
-            variable,
-            store,
-        } = self;
-        let bounds = variable.bounds;
-        let lower = bounds.lower;
-        let upper = bounds.upper;
-        let mark = variable.mark.0;
-        writeln!(output, "variable\t{number}\t{lower}\t{upper}\t{mark}")?;
-        self.put_updates(output, "lower", &store.lower, variable.lower)?;
-        self.put_updates(output, "upper", &store.upper, variable.upper)?;
+    fn put(self, writer: &mut Writer<'_>) {
+        let variable = self.variable;
+        self.begin(writer, b"variable");
+        put_field(writer, variable.bounds.lower);
+        put_field(writer, variable.bounds.upper);
+        put_field(writer, variable.mark.0);
+        writer.put_byte(b'\n');
+        let store = self.store;
+        self.put_updates(writer, b"lower", &store.lower, variable.lower);
+        self.put_updates(writer, b"upper", &store.upper, variable.upper);
         let holes = Chain::of(&store.holes, variable.holes);
-        self.put_holes(output, &holes)?;
-        self.put_initial_holes(output, &holes)
+        self.put_holes(writer, &holes);
+        self.put_initial_holes(writer, &holes);
+    }
+
+    // The word of a line, and the variable's number.
+    fn begin(self, writer: &mut Writer<'_>, word: &[u8]) {
+        writer.put_bytes(word);
+        put_field(writer, self.number);
+    }
+
+    // The fields of an update: the value, the checkpoint at which it was made, and the position.
+    fn put_update(self, writer: &mut Writer<'_>, update: &Update) {
+        let position = update.position.0;
+        let checkpoint = self.positions.checkpoints.get(usize::from(position));
+        put_field(writer, update.value);
+        put_field(writer, checkpoint.copied().unwrap_or(0));
+        put_field(writer, position);
     }
 
     // The updates of one bound, oldest first.
-    fn put_updates<W: Write>(
-        self,
-        output: &mut W,
-        word: &str,
-        pool: &Pool,
-        newest: u16,
-    ) -> io::Result<()> {
-        let number = self.number;
+    fn put_updates(self, writer: &mut Writer<'_>, word: &[u8], pool: &Pool, newest: u16) {
         for update in Chain::of(pool, newest).oldest_first() {
-            let fields = UpdateFields::of(update, self.store);
-            writeln!(output, "{word}\t{number}\t{fields}")?;
+            self.begin(writer, word);
+            self.put_update(writer, update);
+            writer.put_byte(b'\n');
         }
-        Ok(())
     }
 
     // The holes, in the order of their removal.
-    fn put_holes<W: Write>(self, output: &mut W, holes: &Chain) -> io::Result<()> {
-        let Listed { number, store, .. } = self;
+    fn put_holes(self, writer: &mut Writer<'_>, holes: &Chain) {
         for hole in holes.oldest_first() {
-            let fields = UpdateFields::of(hole, store);
-            let lower = u8::from(has_update_at(&store.lower, hole.position));
-            let upper = u8::from(has_update_at(&store.upper, hole.position));
-            writeln!(output, "hole\t{number}\t{fields}\t{lower}\t{upper}")?;
+            self.begin(writer, b"hole");
+            self.put_update(writer, hole);
+            put_flag(writer, &self.positions.lower, hole.position);
+            put_flag(writer, &self.positions.upper, hole.position);
+            writer.put_byte(b'\n');
         }
-        Ok(())
     }
 
     // The holes that creation made, which are at positions up to the mark, rising as they were removed. Without any there is no line.
-    fn put_initial_holes<W: Write>(self, output: &mut W, holes: &Chain) -> io::Result<()> {
-        let Listed {
-            number,
-            variable,
-            ..
-        } = self;
-        let mark = variable.mark.0;
+    fn put_initial_holes(self, writer: &mut Writer<'_>, holes: &Chain) {
+        let mark = self.variable.mark.0;
         if !holes.oldest_first().any(|hole| hole.position.0 <= mark) {
-            return Ok(());
+            return;
         }
-        write!(output, "initial\t{number}")?;
+        self.begin(writer, b"initial");
         for hole in holes.oldest_first().filter(|hole| hole.position.0 <= mark) {
-            let value = hole.value;
-            write!(output, "\t{value}")?;
+            put_field(writer, hole.value);
         }
-        writeln!(output)
+        writer.put_byte(b'\n');
     }
 }
 
-// Whether the pool has an update of that position. An entry belongs to one variable, so a position tells the variable too.
-fn has_update_at(pool: &Pool, position: TrailPosition) -> bool {
-    pool.updates
-        .iter()
-        .take(pool.length)
-        .any(|update| update.position == position)
-}
-
-// The fields of an update: the value, the checkpoint at which it was made, and the position.
-#[derive(Clone, Copy)]
-struct UpdateFields {
-    value: i32,
-    checkpoint: usize,
-    position: u16,
-}
-
-impl UpdateFields {
-    fn of(update: &Update, store: &Assignments) -> Self {
-        let position = update.position.0;
-        let opened = store.delimiters.iter().take(store.checkpoint);
-        UpdateFields {
-            value: update.value,
-            checkpoint: opened.filter(|delimiter| **delimiter <= position).count(),
-            position,
-        }
-    }
-}
-
-impl Display for UpdateFields {
-    fn fmt<W: fmt::Write>(&self, f: &mut fmt::Formatter<W>) -> fmt::Result {
-        write!(f, "{}\t{}\t{}", self.value, self.checkpoint, self.position)
-    }
+// 1 for a position that is marked, else 0.
+fn put_flag(writer: &mut Writer<'_>, marks: &[bool; PLACES], position: TrailPosition) {
+    let mark = marks.get(usize::from(position.0)).copied().unwrap_or(false);
+    put_field(writer, u8::from(mark));
 }
 
 // A variable's own updates, newest first.

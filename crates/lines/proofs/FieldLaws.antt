@@ -15,7 +15,7 @@ use Rattle.std.specs.Prelude.{Option, Some, None, option_map, slice_get}
 use Rattle.std.specs.Option.{unwrap_or}
 use Rattle.std.specs.List.{count_by, slice_split, onto_first}
 use Rattle.std.proofs.lemmas.List.Splits.{length-slice_split, slice_split-cons_yes, slice_split-cons_no}
-use Rattle.lines.specs.Fields.{first_field, later_fields, fields, joined, Tabless, AllTabless}
+use Rattle.lines.specs.Fields.{first_field, later_fields, fields, FirstTab, joined, Tabless, AllTabless}
 use Rattle.lines.proofs.Cases.{true_or_false}
 
 module _ (line : List ℕ) (i : ℕ) (within : i < length line) where
@@ -134,3 +134,25 @@ got (text ∷ texts) (suc place) = got texts place
 pub text_found : (found : Option (Bor (List ℕ))) (none : Bor (List ℕ)) (texts : List (List ℕ)) (place : ℕ) → option_map (λ (x : Bor (List ℕ)). x.now) found ≡ slice_get texts place → none.now ≡ [] → (unwrap_or found none).now ≡ get_or texts place []
 text_found None none texts place e empty = empty ∙ ap (λ (o : Option (List ℕ)). unwrap_or o []) e ∙ got texts place
 text_found (Some text) none texts place e empty = ap (λ (o : Option (List ℕ)). unwrap_or o []) e ∙ got texts place
+
+-- behind the first tab the fields go on
+tab_behind : {b : ℕ} {line : List ℕ} {place : ℕ} → FirstTab (b ∷ line) (suc place) → FirstTab line place
+tab_behind t = record {
+  inside = omega (arith, t.inside);
+  before = λ k low. t.before (suc k) (omega arith);
+  there = λ short. t.there (omega arith);
+}
+
+pub parted : (line : List ℕ) (place : ℕ) → FirstTab line place → place < length line → fields line ≡ take place line ∷ fields (drop (suc place) line)
+parted [] place t short = absurd (omega (arith, short))
+parted (b ∷ line) zero t short = fields_tab b line (eq-eqb b 9 (t.there short))
+parted (b ∷ line) (suc place) t short =
+    fields_byte b line (ne_eqb b 9 (t.before 0 (omega arith)))
+    ∙ ap (onto_first b) (parted line place (tab_behind t) (omega (arith, short)))
+
+-- with no tab the line is its one field
+pub unparted : (line : List ℕ) → FirstTab line (length line) → fields line ≡ line ∷ []
+unparted [] t = refl
+unparted (b ∷ line) t =
+    fields_byte b line (ne_eqb b 9 (t.before 0 (omega arith)))
+    ∙ ap (onto_first b) (unparted line (tab_behind t))

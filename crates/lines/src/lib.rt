@@ -6,6 +6,6 @@ mod fields;
 mod numbers;
 mod writing;
 
-pub use fields::{field, field_count, is_word};
+pub use fields::{field, field_count, first_field, is_word};
 pub use numbers::{read_integer, read_natural};
 pub use writing::Writer;

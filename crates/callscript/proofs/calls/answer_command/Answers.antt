@@ -4,4 +4,4 @@ use Rattle.stores.specs.Made.{Made}
 use Rattle.callscript.proofs.calls.answer_command.Goals as goal
 
 pub returns-in-Fresh : goal.returns-in-Fresh
-returns-in-Fresh g c = subst Made (sym c.default.ensures) Made.fresh
+returns-in-Fresh c = subst Made (sym c.default.ensures) Made.fresh

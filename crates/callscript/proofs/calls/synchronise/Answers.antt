@@ -4,4 +4,4 @@ use Rattle.stores.specs.Made.{Made}
 use Rattle.callscript.proofs.calls.synchronise.Goals as goal
 
 pub returns : goal.returns
-returns g c = subst Made (sym c.synchronise-gone.ensures.store) (Made.synchronise c.requires _ _)
+returns c = subst Made (sym c.synchronise-gone.ensures.store) (Made.synchronise c.requires _ _)
