@@ -1,8 +1,10 @@
 // What is read from standard input, in constant memory: the bytes that are not yet answered, and reading on behind them.
-ghost use Rattle.std.specs.Prelude.{ℕ, false, ◌+◌, ◌-◌, ◌<◌, ◌≤◌, ◌≡◌, length, get_or, slice_range, slice_set, take, drop};
+ghost use Rattle.std.specs.Prelude.{ℕ, false, true, ◌+◌, ◌-◌, ◌<◌, ◌≤◌, ◌≡◌, length, get_or, slice_range, slice_set, take, drop};
 ghost use Rattle.std.specs.Io.KnownBytes.{Consumes};
+ghost use Rattle.driver.specs.Runs.{EndsAt};
 
 use commands::Command;
+use driver::line_end;
 use std::io::Read;
 
 // The bytes that are read and not yet answered are those from `start` to `end`.
@@ -81,17 +83,17 @@ impl Input {
         ensures end { self.new.end ≡ self.old.end }
         ensures bytes { self.new.bytes ≡ self.old.bytes }
         ensures all { result ≡ false → self.new.start ≡ self.new.end }
+        ensures none { result ≡ false → EndsAt (slice_range self.old.bytes self.old.start self.old.end) 0 (self.old.end - self.old.start) }
+        ensures passed { result ≡ true → self.old.start < self.new.start }
+        ensures ended { result ≡ true → EndsAt (slice_range self.old.bytes self.old.start self.old.end) 0 (self.new.start - (self.old.start + 1)) }
     {
-        match self.unread().iter().position(|byte| *byte == b'\n') {
-            Some(place) => {
-                self.start += place + 1;
-                true
-            }
-            None => {
-                self.start = self.end;
-                false
-            }
+        let length = line_end(self.unread(), 0);
+        if length == self.end - self.start {
+            self.start = self.end;
+            return false;
         }
+        self.start += length + 1;
+        true
     }
 
     // Reads on where no line is left that an LF ends; false where there is nothing more. A line that is too long is told by its first
