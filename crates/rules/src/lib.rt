@@ -64,7 +64,7 @@ impl StoredDomain {
         let Bounds { lower, upper } = self.bounds;
         if lower < value {
             return Step::Moves(Bounds {
-                lower: self.raised(value),
+                lower: self.raised(value), // `value` may be a hole
                 upper,
             });
         }
@@ -78,7 +78,7 @@ impl StoredDomain {
         if value < upper {
             return Step::Moves(Bounds {
                 lower,
-                upper: self.lowered(lower, value),
+                upper: self.lowered(lower, value), // `value` may be a hole
             });
         }
         Step::Nothing
