@@ -25,7 +25,7 @@ impl<'a> Fields<'a> {
 
     // The next field, if one is left.
     pub fn word(&mut self) -> Option<&'a [u8]>
-        ensures { MatchOption result (fields_behind self.old.rest ≡ []) (λ field. fields_behind self.old.rest ≡ field.now ∷ fields_behind self.new.rest) }
+        ensures { MatchOption result ((fields_behind self.old.rest ≡ []) × (fields_behind self.new.rest ≡ [])) (λ field. fields_behind self.old.rest ≡ field.now ∷ fields_behind self.new.rest) }
     {
         let (field, rest) = first_field(self.rest?);
         self.rest = rest;

@@ -1,5 +1,5 @@
 // Answers the lines of standard input, each a public call of the store (docs/CALLS.md), as the Rust's oracle does.
-// Relies on all crates of the store, and on lines for the numbers.
+// Relies on all crates of the store, and on lines for the text.
 #![tactic(auto)]
 
 mod answers;
